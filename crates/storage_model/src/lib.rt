@@ -1,0 +1,10 @@
+//! What a peer stores and what it is asked: the types, and the meaning of every decision over them.
+#![tactic(auto)]
+
+mod record;
+mod request;
+mod verdict;
+
+pub use record::{Held, Kept, KindRecord, Record, Slot};
+pub use request::{AskedKind, StoreAsked, Value};
+pub use verdict::StoreVerdict;
