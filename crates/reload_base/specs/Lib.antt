@@ -1,2 +1,4 @@
+pub mod Fakes
 pub mod Lists
 pub mod Outside
+pub mod Whole
