@@ -1,0 +1,4 @@
+pub mod DecimalLaws
+pub mod LinesLaws
+pub mod SeparatorLaws
+pub mod StepsLaws
