@@ -3,7 +3,7 @@ use Rattle.std.proofs.Common.{◌≡◌, ℕ, ◌+◌, ◌-◌, ◌*◌, ◌^◌
 use Rattle.std.specs.Prelude.{nat_lt, ◌==◌, IfSome}
 use Rattle.std.specs.Char.{is_ascii_digit}
 use Rattle.std.specs.Fmt.{decimal}
-use Rattle.std.specs.Str.{all_ascii_digits}
+use Rattle.std.specs.List.{list_all}
 use Rattle.std.proofs.lemmas.Bool.{and_parts, cases_eq}
 use Rattle.std.proofs.lemmas.Bool.Decides.{nat_tests}
 use Rattle.std.proofs.lemmas.Fmt.{digits_decimal, digits_value-decimal, decimal-digits_value, first_decimal, decimal_nonempty, decimal_digit}
@@ -17,8 +17,12 @@ abbrev read_on : ℕ → List ℕ → ℕ
 read_on n [] = n
 read_on n (digit ∷ digits) = read_on (n * 10 + (digit - 48)) digits
 
-own : IsNumeralModel (λ ds. all_ascii_digits ds ≡ true) (read_on 0)
+own : IsNumeralModel (λ ds. list_all is_ascii_digit ds ≡ true) (read_on 0)
 own = numerals_by_fold _ (search rules) read_on (search rules)
+
+-- a decimal has digits alone
+pub all_digits-decimal : (n : ℕ) → n < 2 ^ 64 → list_all is_ascii_digit (decimal n) ≡ true
+all_digits-decimal n small = digits_decimal own n small
 
 -- more digits make no smaller number
 read_on-le : (n : ℕ) (digits : List ℕ) → n ≤ read_on n digits
@@ -35,7 +39,7 @@ unfolding with_digit
 with_digit-fits most n digit is fits = grind (arith, nat_tests)
 
 -- what digits made
-with_digits-takes : (most n : ℕ) (digits : List ℕ) (m : ℕ) → n ≤ most → with_digits most n digits ≡ Some m → (all_ascii_digits digits ≡ true) × (m ≡ read_on n digits) × (m ≤ most)
+with_digits-takes : (most n : ℕ) (digits : List ℕ) (m : ℕ) → n ≤ most → with_digits most n digits ≡ Some m → (list_all is_ascii_digit digits ≡ true) × (m ≡ read_on n digits) × (m ≤ most)
 unfolding with_digits
 with_digits-takes most n [] m fits e = let same = same_Some n m e in (refl, sym same, omega (arith, same))
 with_digits-takes most n (digit ∷ digits) m fits e =
@@ -44,11 +48,11 @@ with_digits-takes most n (digit ∷ digits) m fits e =
     let later = with_digits-takes most step.0 digits m first.2 step.2 in
     (rw (first.0, later.0) refl, later.1 ∙ ap (λ k. read_on k digits) first.1, later.2)
 
-with_digits-fits : (most n : ℕ) (digits : List ℕ) → all_ascii_digits digits ≡ true → read_on n digits ≤ most → with_digits most n digits ≡ Some (read_on n digits)
+with_digits-fits : (most n : ℕ) (digits : List ℕ) → list_all is_ascii_digit digits ≡ true → read_on n digits ≤ most → with_digits most n digits ≡ Some (read_on n digits)
 unfolding with_digits
 with_digits-fits most n [] is fits = refl
 with_digits-fits most n (digit ∷ digits) is fits =
-    let parts = and_parts (is_ascii_digit digit) (all_ascii_digits digits) is in
+    let parts = and_parts (is_ascii_digit digit) (list_all is_ascii_digit digits) is in
     let up = read_on-le (n * 10 + (digit - 48)) digits in
     rw (with_digit-fits most n digit parts.0 (omega (arith, up))) (with_digits-fits most (n * 10 + (digit - 48)) digits parts.1 fits)
 
@@ -92,7 +96,7 @@ decimal_of-decimal most n small fits =
     let below : n < 2 ^ 64 = omega arith in
     let value = digits_value-decimal own n below in
     unless_false _ (with_digits most 0 (decimal n)) (plain_from_parts (length (decimal n)) (get_or (decimal n) 0 0) (decimal_nonempty n below) (lone_zero n below))
-    ∙ with_digits-fits most 0 (decimal n) (digits_decimal own n below) (omega (arith, value))
+    ∙ with_digits-fits most 0 (decimal n) (all_digits-decimal n below) (omega (arith, value))
     ∙ ap Some value
 
 -- the same of what a reader answers

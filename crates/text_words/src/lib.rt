@@ -2,11 +2,17 @@
 #![tactic(auto)]
 
 mod decimal;
+mod hex_word;
+mod id;
 mod lines;
+mod name;
 mod separator;
 mod steps;
 
 pub use decimal::{decimal_of, put_decimal};
+pub use hex_word::{hex_of, put_hex};
+pub use id::{id_of, put_id};
 pub use lines::{first_line, is_passed_over, is_sound_line};
+pub use name::is_name;
 pub use separator::{behind, upto};
 pub use steps::allowed;

@@ -1,0 +1,33 @@
+-- The test of a name decides what a name is.
+use Rattle.std.proofs.Common.{◌≡◌, ℕ, ◌≤◌, Bool, true, ◌&&◌, List, length, get_or, arith}
+use Rattle.std.specs.Prelude.{nat_le, ◌↔◌}
+use Rattle.std.specs.List.{list_all}
+use Rattle.std.proofs.lemmas.Bool.Decides.{nat_tests}
+use Rattle.std.proofs.lemmas.List.Sums.{AllPass-from_list_all, list_all-from_AllPass}
+use Rattle.text_words.specs.Name.{is_visible, is_name, IsName}
+
+visible : (byte : ℕ) → is_visible byte ≡ true → (33 ≤ byte) × (byte ≤ 126)
+visible byte e = grind (arith, nat_tests)
+
+visible_from : (byte : ℕ) → (33 ≤ byte) × (byte ≤ 126) → is_visible byte ≡ true
+visible_from byte h = grind (arith, nat_tests)
+
+sized : (n : ℕ) (b : Bool) → (nat_le 1 n && nat_le n 64 && b) ≡ true → (1 ≤ n) × (n ≤ 64) × (b ≡ true)
+sized n b e = grind (arith, nat_tests)
+
+sized_from : (n : ℕ) (b : Bool) → 1 ≤ n → n ≤ 64 → b ≡ true → (nat_le 1 n && nat_le n 64 && b) ≡ true
+sized_from n b some short e = grind (arith, nat_tests)
+
+-- each byte of a name is visible
+pub all_visible-name : (word : List ℕ) → IsName word → list_all is_visible word ≡ true
+all_visible-name word name = list_all-from_AllPass is_visible word (λ k d within. visible_from (get_or word k d) (name.2 k d within))
+
+-- a word passes the test exactly where it is a name
+pub is_name-IsName : (word : List ℕ) → (is_name word ≡ true) ↔ IsName word
+unfolding is_name
+is_name-IsName word = (
+  λ e.
+      let parts = sized (length word) (list_all is_visible word) e in
+      (parts.0, parts.1, λ k d within. visible (get_or word k d) (AllPass-from_list_all is_visible word parts.2 k d within)),
+  λ name. sized_from (length word) (list_all is_visible word) name.0 name.1 (all_visible-name word name),
+)

@@ -1,0 +1,18 @@
+-- Bytes as words of lower-case hex digits.
+use Rattle.std.specs.Prelude.{ℕ, ◌<◌, ◌||◌, Bool, if◌then◌else◌, List, Option, None}
+use Rattle.std.specs.Int.{is_in_range}
+use Rattle.std.specs.List.{list_all, All}
+use Rattle.std.specs.Result.{result_ok}
+use Rattle.hex.specs.Hex.{decode_of}
+
+-- every element is a byte
+abbrev pub AllBytes : List ℕ → Type 0
+AllBytes bytes = All (λ byte. byte < 256) bytes
+
+-- from `0` to `9` or from `a` to `f`
+abbrev pub is_lower_digit : ℕ → Bool
+is_lower_digit byte = is_in_range 48 57 byte || is_in_range 97 102 byte
+
+-- the bytes of an even number of lower-case hex digits
+unfoldable pub hex_of : List ℕ → Option (List ℕ)
+hex_of word = if list_all is_lower_digit word then result_ok (decode_of word) else None
