@@ -1,3 +1,4 @@
 pub mod Records
 pub mod Verdict
 pub mod Decisions
+pub mod Laws
