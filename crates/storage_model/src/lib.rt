@@ -6,7 +6,7 @@ mod record;
 mod request;
 mod verdict;
 
-pub use laws::decisions_bound_counters;
+pub use laws::{decisions_bound_counters, floors_never_fall};
 pub use record::{Held, Kept, KindRecord, Record, Slot};
 pub use request::{AskedKind, StoreAsked, Value};
 pub use verdict::StoreVerdict;
