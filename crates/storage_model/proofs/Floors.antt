@@ -1,9 +1,8 @@
 -- The floors of a record after a decision: none falls, and the times of an accepted Store are between the floors before and after it.
-use Rattle.std.proofs.Common.{◌≡◌, ◌≢◌, ◌⊎◌, ℕ, zero, suc, ◌<◌, ◌≤◌, ◌+◌, Bool, true, false, cond, eqb, leb, not, ◌&&◌, ◌||◌, List, [], ◌∷◌, ◌++◌, length, map, filter, unwrap_or, flat_map, fold, refl, sym, ap, ◌∙◌, subst, inl, inr, ⊎_elim, nat_cmp, is_eq, Some, None, find, append-nil, true≢false, arith}
+use Rattle.std.proofs.Common.{◌≡◌, ◌⊎◌, ℕ, ◌<◌, ◌≤◌, Bool, true, false, cond, eqb, not, ◌&&◌, ◌||◌, List, [], ◌∷◌, ◌++◌, length, map, filter, fold, refl, sym, ap, ◌∙◌, subst, inl, inr, ⊎_elim, nat_cmp, is_eq, Some, None, append-nil, true≢false, arith}
 use Rattle.std.specs.Option.{option_map_or}
 use Rattle.std.specs.List.{AllByRecursion, list_any}
 use Rattle.std.specs.Cmp.Lexicographic.{slice_cmp}
-use Rattle.std.proofs.lemmas.Bool.Decides.{nat_tests}
 use Rattle.data_models.specs.declared.config.Config.{Config}
 use Rattle.data_models.specs.declared.stored_data.SlotKey.{SlotKey}
 use Rattle.data_models.specs.declared.stored_data.SlotKey.TheVariants.{Whole}
@@ -74,9 +73,9 @@ floor_in-put_all now kinds id (a ∷ asked) base few =
     let rest : List AskedKind = filter puts asked in
     let here : ℕ → Bool → Type 0 = λ n b. floor_in (put_all now kinds base (cond b (a ∷ rest) rest)) id [] ≡ n in
     let absent = λ (h : HasNone a). subst (here (last_of f (cond (eqb a.kind id) xs [] ++ ys))) (sym h.0)
-      (floor_in-put_all now kinds id asked base few.1 ∙ ap (last_of f) (sym (either_nil (eqb a.kind id) xs ys h.1))) in
+    (floor_in-put_all now kinds id asked base few.1 ∙ ap (last_of f) (sym (either_nil (eqb a.kind id) xs ys h.1))) in
     let there = λ (h : HasOne now kinds a). subst (here (last_of f (cond (eqb a.kind id) xs [] ++ ys))) (sym h.0)
-      (floor_in-put_all now kinds id asked (put_kind k base) few.1 ∙ ap (λ n. last_of n ys) (floor_in-put k base id []) ∙ last_of-either (eqb a.kind id) (floor_of k []) f ys ∙ ap (λ (zs : List ℕ). last_of f (cond (eqb a.kind id) zs [] ++ ys)) (sym h.1)) in
+    (floor_in-put_all now kinds id asked (put_kind k base) few.1 ∙ ap (λ n. last_of n ys) (floor_in-put k base id []) ∙ last_of-either (eqb a.kind id) (floor_of k []) f ys ∙ ap (λ (zs : List ℕ). last_of f (cond (eqb a.kind id) zs [] ++ ys)) (sym h.1)) in
     ⊎_elim absent there (none_or_one now kinds a few.0) ∙ ap (last_of f) (sym (times_for-cons id [] a asked))
 
 -- whether a kind gets a value
@@ -109,8 +108,8 @@ unfolding kinds_after
 floor_in-after now asked kinds id sound =
     let few = are_few asked sound in
     floor_in-put_all now kinds id asked (map (swept now) (filter (λ k. not (gets asked k.kind)) kinds)) few
-      ∙ ap (λ n. last_of n (times_for id [] asked)) (floor_in-swept now (gets asked) id [] kinds)
-      ∙ last_of-gets now kinds id (floor_in kinds id []) asked few
+    ∙ ap (λ n. last_of n (times_for id [] asked)) (floor_in-swept now (gets asked) id [] kinds)
+    ∙ last_of-gets now kinds id (floor_in kinds id []) asked few
 
 too_old_of : (a b c d : Bool) (n : ℕ) → cond a 12 (cond b 2 (cond c 5 (cond d 9 n))) ≡ 0 → d ≡ false
 too_old_of a b c d n e = grind arith

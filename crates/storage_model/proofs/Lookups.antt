@@ -1,5 +1,5 @@
 -- The floors of a record's kinds after its expired values left, and after a kind was put.
-use Rattle.std.proofs.Common.{◌≡◌, ℕ, ◌<◌, Bool, true, false, cond, eqb, ltb, not, List, [], ◌∷◌, map, filter, find, Option, Some, None, option_map, refl, sym, ap, ◌∙◌, subst, nat_cmp, is_eq, arith}
+use Rattle.std.proofs.Common.{◌≡◌, ℕ, ◌<◌, Bool, true, false, cond, eqb, ltb, not, List, [], ◌∷◌, map, filter, find, Option, Some, refl, sym, ap, ◌∙◌, nat_cmp, is_eq, arith}
 use Rattle.std.specs.Option.{option_map_or}
 use Rattle.std.specs.Cmp.Lexicographic.{slice_cmp}
 use Rattle.std.proofs.lemmas.Bool.Decides.{nat_tests}
@@ -73,8 +73,8 @@ floor_in-swept now leaves id key [] = none_zero (leaves id) 0 refl
 floor_in-swept now leaves id key (k ∷ kinds) =
     let rest : List KindRecord = filter (λ (x : KindRecord). not (leaves x.kind)) kinds in
     let this : ◌≡◌ {A = ℕ} (floor_in (map (swept now) (cond (not (leaves k.kind)) (k ∷ rest) rest)) id key) (cond (leaves k.kind) (floor_in (map (swept now) rest) id key) (cond (eqb k.kind id) (floor_of k key) (floor_in (map (swept now) rest) id key))) =
-      elim (leaves k.kind) as (λ b. ◌≡◌ {A = ℕ} (floor_in (map (swept now) (cond (not b) (k ∷ rest) rest)) id key) (cond b (floor_in (map (swept now) rest) id key) (cond (eqb k.kind id) (floor_of k key) (floor_in (map (swept now) rest) id key)))) [
-        | true ↦ refl
-        | false ↦ floor_at-cond (eqb k.kind id) (swept now k) (kind_in (map (swept now) rest) id) key ∙ ap (λ n. cond (eqb k.kind id) n (floor_in (map (swept now) rest) id key)) (floor_of-swept now key k.slots)
-      ] in
+    elim (leaves k.kind) as (λ b. ◌≡◌ {A = ℕ} (floor_in (map (swept now) (cond (not b) (k ∷ rest) rest)) id key) (cond b (floor_in (map (swept now) rest) id key) (cond (eqb k.kind id) (floor_of k key) (floor_in (map (swept now) rest) id key)))) [
+      | true ↦ refl
+      | false ↦ floor_at-cond (eqb k.kind id) (swept now k) (kind_in (map (swept now) rest) id) key ∙ ap (λ n. cond (eqb k.kind id) n (floor_in (map (swept now) rest) id key)) (floor_of-swept now key k.slots)
+    ] in
     this ∙ stays_step leaves k.kind id (floor_of k key) (floor_in kinds id key) (floor_in (map (swept now) rest) id key) (floor_in-swept now leaves id key kinds) ∙ ap (cond (leaves id) 0) (sym (floor_at-cond (eqb k.kind id) k (kind_in kinds id) key))

@@ -1,9 +1,9 @@
 -- The storage times that a Store gives for one slot.
-use Rattle.std.proofs.Common.{◌≡◌, ◌≢◌, ◌⊎◌, ℕ, zero, suc, ◌<◌, ◌≤◌, ◌+◌, Bool, true, false, cond, eqb, leb, List, [], ◌∷◌, ◌++◌, length, unwrap_or, flat_map, fold, refl, sym, ap, ◌∙◌, subst, inl, inr, ⊎_elim, Ordering, Less, Equal, Greater, nat_cmp, is_eq, length-append, arith}
+use Rattle.std.proofs.Common.{◌≡◌, ◌≢◌, ℕ, suc, ◌<◌, ◌≤◌, Bool, true, false, cond, eqb, leb, List, [], ◌∷◌, ◌++◌, length, flat_map, refl, sym, ap, ◌∙◌, subst, Ordering, Less, Equal, Greater, nat_cmp, is_eq, length-append, arith}
 use Rattle.std.specs.List.{AllByRecursion, list_any}
 use Rattle.std.specs.Cmp.Lexicographic.{slice_cmp}
 use Rattle.std.specs.FinMap.{slice_cmp-IsAntisymmetric, nat_cmp-IsAntisymmetric}
-use Rattle.std.proofs.lemmas.Bool.{eqb-true, eqb-false, ne_eqb, cond-false, leb-false, or_parts}
+use Rattle.std.proofs.lemmas.Bool.{eqb-true, ne_eqb, leb-false, or_parts}
 use Rattle.data_models.specs.declared.stored_data.SlotKey.{SlotKey}
 use Rattle.data_models.specs.declared.stored_data.SlotKey.TheVariants.{Whole}
 use Rattle.data_models.specs.Stored.{key_of}
@@ -11,8 +11,8 @@ use Rattle.storage_model.specs.declared.record.KindRecord.{KindRecord}
 use Rattle.storage_model.specs.declared.request.Value.{Value}
 use Rattle.storage_model.specs.declared.request.AskedKind.{AskedKind}
 use Rattle.storage_model.specs.Records.{floor_in}
-use Rattle.storage_model.specs.Verdict.{values_of, puts, is_too_old}
-use Rattle.storage_model.specs.Decisions.{times_for, IsSoundKinds, Rises}
+use Rattle.storage_model.specs.Verdict.{values_of, is_too_old}
+use Rattle.storage_model.specs.Decisions.{times_for, IsSoundKinds}
 
 -- the times of values with a key
 abbrev pub times_of : List ℕ → List Value → List ℕ
@@ -110,5 +110,5 @@ times_for-over kinds id key (a ∷ asked) h =
     let parts = or_parts (list_any (λ (v : Value). leb v.stored.storage_time (floor_in kinds a.kind (key_of v.stored.key))) (values_of a)) _ h in
     subst (AllByRecursion (λ t. floor_in kinds id key < t)) (sym (times_for-cons id key a asked))
     (each_either (λ t. floor_in kinds id key < t) (eqb a.kind id) (times_of key (values_of a)) (times_for id key asked)
-      (λ e. subst (λ i. AllByRecursion (λ t. floor_in kinds i key < t) (times_of key (values_of a))) (eqb-true a.kind id e) (over_of kinds a.kind key (values_of a) parts.0))
-      (times_for-over kinds id key asked parts.1))
+    (λ e. subst (λ i. AllByRecursion (λ t. floor_in kinds i key < t) (times_of key (values_of a))) (eqb-true a.kind id e) (over_of kinds a.kind key (values_of a) parts.0))
+    (times_for-over kinds id key asked parts.1))

@@ -6,7 +6,10 @@ mod record;
 mod request;
 mod verdict;
 
-pub use laws::{decisions_bound_counters, floors_never_fall};
+pub use laws::{
+    acting_stores_are_newer, decisions_bound_counters, floors_never_fall, legal_decisions_act_once,
+    repeats_get_their_answer,
+};
 pub use record::{Held, Kept, KindRecord, Record, Slot};
 pub use request::{AskedKind, StoreAsked, Value};
 pub use verdict::StoreVerdict;
