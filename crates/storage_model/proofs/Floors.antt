@@ -29,29 +29,36 @@ last_of f ts = fold (λ old new. new) f ts
 abbrev HasNone : AskedKind → Type 0
 HasNone a = (puts a ≡ false) × (times_of [] (values_of a) ≡ [])
 
+-- its one time is the floor afterwards
 abbrev HasOne : ℕ → List KindRecord → AskedKind → Type 0
 HasOne now kinds a = (puts a ≡ true) × (times_of [] (values_of a) ≡ floor_of (kind_after now kinds a) [] ∷ [])
 
+-- the one slot of a single kind is found at the empty key
 floor_of-slot : (key : SlotKey) (s : Slot) → s.floor ∷ [] ≡ option_map_or (λ s. s.floor) (cond (is_eq (slice_cmp nat_cmp (key_of key) [])) (Some s) None) 0 ∷ []
 floor_of-slot Whole s = refl
 
+-- of the values themselves
 none_or_one_of : (now : ℕ) (vs : List Value) → length vs ≤ 1 → ((not (eqb (length vs) 0) ≡ false) × (times_of [] vs ≡ [])) ⊎ ((not (eqb (length vs) 0) ≡ true) × (times_of [] vs ≡ option_map_or (λ s. s.floor) (slot_in (map (slot_of now) vs) []) 0 ∷ []))
 unfolding slot_in
 none_or_one_of now [] l = inl (refl, refl)
 none_or_one_of now (v ∷ []) l = inr (refl, append-nil (cond (is_eq (slice_cmp nat_cmp (key_of v.stored.key) [])) (v.stored.storage_time ∷ []) []) ∙ times_of-whole v.stored.key v.stored.storage_time ∙ floor_of-slot v.stored.key (slot_of now v))
 none_or_one_of now (v ∷ w ∷ vs) l = absurd (omega arith)
 
+-- each kind of at most one value has none or one
 none_or_one : (now : ℕ) (kinds : List KindRecord) (a : AskedKind) → length (values_of a) ≤ 1 → HasNone a ⊎ HasOne now kinds a
 unfolding puts kind_after
 none_or_one now kinds a few = none_or_one_of now (values_of a) few
 
+-- a time that may be there stands before the others
 last_of-either : (b : Bool) (t f : ℕ) (ts : List ℕ) → last_of (cond b t f) ts ≡ last_of f (cond b (t ∷ []) [] ++ ts)
 last_of-either true t f ts = refl
 last_of-either false t f ts = refl
 
+-- each kind has at most one value
 abbrev AreFew : List AskedKind → Type 0
 AreFew asked = AllByRecursion (λ a. length (values_of a) ≤ 1) asked
 
+-- so it is in a sound Store
 are_few : (asked : List AskedKind) → IsSoundKinds asked → AreFew asked
 unfolding IsSoundKinds
 are_few [] h = tt
@@ -82,10 +89,12 @@ floor_in-put_all now kinds id (a ∷ asked) base few =
 abbrev gets : List AskedKind → ℕ → Bool
 gets asked id = list_any (λ a. puts a && (eqb a.kind id)) asked
 
+-- one more kind, without a value
 gets_none : (p e g : Bool) (f : ℕ) (xs ys : List ℕ) → p ≡ false → xs ≡ [] → last_of (cond g 0 f) ys ≡ last_of f ys → last_of (cond (p && e || g) 0 f) (cond e xs [] ++ ys) ≡ last_of f (cond e xs [] ++ ys)
 gets_none true e g f xs ys p none rest = absurd (true≢false p)
 gets_none false e g f xs ys p none rest = subst (λ zs. last_of (cond g 0 f) zs ≡ last_of f zs) (sym (either_nil e xs ys none)) rest
 
+-- one more kind, with a value
 gets_one : (p e g : Bool) (f t : ℕ) (xs ys : List ℕ) → p ≡ true → xs ≡ t ∷ [] → last_of (cond g 0 f) ys ≡ last_of f ys → last_of (cond (p && e || g) 0 f) (cond e xs [] ++ ys) ≡ last_of f (cond e xs [] ++ ys)
 gets_one false e g f t xs ys p one rest = absurd (true≢false (sym p))
 gets_one true true g f t xs ys p one rest = subst (λ (zs : List ℕ). last_of 0 (zs ++ ys) ≡ last_of f (zs ++ ys)) (sym one) refl
@@ -111,6 +120,7 @@ floor_in-after now asked kinds id sound =
     ∙ ap (λ n. last_of n (times_for id [] asked)) (floor_in-swept now (gets asked) id [] kinds)
     ∙ last_of-gets now kinds id (floor_in kinds id []) asked few
 
+-- code 0 passes the fourth case
 too_old_of : (a b c d : Bool) (n : ℕ) → cond a 12 (cond b 2 (cond c 5 (cond d 9 n))) ≡ 0 → d ≡ false
 too_old_of a b c d n e = grind arith
 
@@ -131,6 +141,7 @@ kept_floor config now resource kinds asked id sound e =
     subst (λ n. floor_in kinds id [] ≤ n) (sym (floor_in-after now asked kinds id sound))
     (last_of-over (floor_in kinds id []) (times_for id [] asked) (times_for-few id [] asked sound) (times_for-over kinds id [] asked (none_too_old config now resource kinds asked e)))
 
+-- the record after a decision
 floor-record_after : (config : Config) (now resource : ℕ) (x : Record) (q : StoreAsked) (id : ℕ) → IsSoundKinds q.kinds → floor_in x.kinds id [] ≤ floor_in (record_after config now resource x q).kinds id []
 floor-record_after config now resource x q id sound = kinds-record_after (λ kinds. floor_in x.kinds id [] ≤ floor_in kinds id []) config now resource x q (omega arith) (kept_floor config now resource x.kinds q.kinds id sound)
 
@@ -140,5 +151,6 @@ floor-map_after config m d r id sound =
     each_after (λ q x. floor_in (record_in m q).kinds id [] ≤ floor_in x.kinds id []) m d.resource (outcome_on config m d).next
     (floor-record_after config d.time d.resource (record_in m d.resource) d.asked id sound) (λ q. omega arith) r
 
+-- the same at each key that a value can have
 pub floor-any : (config : Config) (m : Map) (d : Decision) (r id : ℕ) (key : SlotKey) → IsSoundKinds d.asked.kinds → floor_in (record_in m r).kinds id (key_of key) ≤ floor_in (record_in (map_after config m d) r).kinds id (key_of key)
 floor-any config m d r id Whole sound = floor-map_after config m d r id sound

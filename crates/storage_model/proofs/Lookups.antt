@@ -17,13 +17,11 @@ floor_of k key = option_map_or (λ s. s.floor) (slot_in k.slots key) 0
 abbrev pub floor_at : Option KindRecord → List ℕ → ℕ
 floor_at o key = option_map_or (λ k. floor_of k key) o 0
 
-pub floor_in-kind_in : (kinds : List KindRecord) (id : ℕ) (key : List ℕ) → floor_in kinds id key ≡ floor_at (kind_in kinds id) key
-unfolding floor_in
-floor_in-kind_in kinds id key = refl
-
+-- two tests that differ may be asked in either order
 below_first : {X : Type 0} (j k id : ℕ) (x y z : X) → j < k → cond (eqb j id) x (cond (eqb k id) y z) ≡ cond (eqb k id) y (cond (eqb j id) x z)
 below_first j k id x y z l = grind (arith, nat_tests)
 
+-- of two tests alike the first answers
 same_first : {X : Type 0} (j k id : ℕ) (x y z : X) → eqb k j ≡ true → cond (eqb k id) y z ≡ cond (eqb k id) y (cond (eqb j id) x z)
 same_first j k id x y z e = grind (arith, nat_tests)
 
@@ -40,6 +38,7 @@ kind_in-put k (j ∷ js) id =
       ]) refl
     ]) refl
 
+-- the floor where a kind is found or not
 floor_at-cond : (b : Bool) (k : KindRecord) (o : Option KindRecord) (key : List ℕ) → floor_at (cond b (Some k) o) key ≡ cond b (floor_of k key) (floor_at o key)
 floor_at-cond true k o key = refl
 floor_at-cond false k o key = refl
@@ -59,9 +58,11 @@ floor_of-swept now key (s ∷ slots) =
       | false ↦ floor_of-swept now key slots
     ]
 
+-- one more kind, which may leave
 stays_step : (leaves : ℕ → Bool) (j id f u v : ℕ) → v ≡ cond (leaves id) 0 u → cond (leaves j) v (cond (eqb j id) f v) ≡ cond (leaves id) 0 (cond (eqb j id) f u)
 stays_step leaves j id f u v e = grind (arith, nat_tests)
 
+-- no floor is 0
 none_zero : (b : Bool) (n : ℕ) → n ≡ 0 → n ≡ cond b 0 n
 none_zero true n e = e
 none_zero false n e = refl

@@ -9,9 +9,11 @@ use Rattle.storage_model.specs.declared.record.Record.{Record}
 use Rattle.storage_model.specs.Records.{Map, record_in, empty_record}
 use Rattle.storage_model.specs.Verdict.{changed}
 
+-- a key is itself
 key_same : (r : ℕ) → eq_by_cmp nat_cmp r r ≡ true
 key_same r = grind (arith, nat_tests)
 
+-- another key is another
 key_other : (q r : ℕ) → q ≢ r → eq_by_cmp nat_cmp q r ≡ false
 key_other q r n = grind (arith, nat_tests)
 

@@ -24,9 +24,11 @@ pub record Acts (config : Config) (now resource : ℕ) (x : Record) (q : StoreAs
   pub kinds : (record_after config now resource x q).kinds ≡ kinds_after now q.kinds x.kinds
   pub some : list_any puts q.kinds ≡ true
 
+-- the same, where o is the answer that is kept
 abbrev ActsAt : ℕ → ℕ → Record → StoreAsked → Option Kept → Type 0
 ActsAt code now x q o = (code ≡ 0) × ((unwrap_or (option_map_or kept_outcome o (first_outcome code now x q)).next x).kinds ≡ kinds_after now q.kinds x.kinds) × (list_any puts q.kinds ≡ true)
 
+-- by the cases of that answer
 acts_of : (code now : ℕ) (x : Record) (q : StoreAsked) (o : Option Kept) → (option_map_or kept_outcome o (first_outcome code now x q)).verdict.acted ≡ true → ActsAt code now x q o
 unfolding first_outcome kept_outcome noted
 acts_of code now x q (Some kept) e = absurd (true≢false (sym e))
@@ -34,6 +36,7 @@ acts_of code now x q None e =
     let parts = and_parts (eqb code 0) (list_any puts q.kinds) e in
     (eqb-true code 0 parts.0, cond-true (eqb code 0) (kinds_after now q.kinds x.kinds) x.kinds parts.0, parts.1)
 
+-- a decision acts where its verdict says so
 acts : (config : Config) (now resource : ℕ) (x : Record) (q : StoreAsked) → (outcome_of config now resource x q).verdict.acted ≡ true → Acts config now resource x q
 unfolding outcome_of
 acts config now resource x q e =
@@ -44,6 +47,7 @@ acts config now resource x q e =
 abbrev pub RisesOver : ℕ → List ℕ → Type 0
 RisesOver f ts = Rises ts × AllByRecursion (λ t. f < t) ts
 
+-- what is over g is over what g is over
 over_less : (f g : ℕ) (ts : List ℕ) → f ≤ g → AllByRecursion (λ t. g < t) ts → AllByRecursion (λ t. f < t) ts
 over_less f g [] l h = tt
 over_less f g (t ∷ ts) l h = (omega (arith, h.0), over_less f g ts l h.1)
@@ -55,17 +59,15 @@ rises_join f g [] ys few over e h = (h.0, over_less f g ys (omega arith) h.1)
 rises_join f g (t ∷ []) ys few over e h = ((over_less t g ys (omega arith) h.1, h.0), (over.0, over_less f g ys (omega (arith, over.0)) h.1))
 rises_join f g (t ∷ u ∷ xs) ys few over e h = absurd (omega arith)
 
+-- no decision gives no time
 times_in-nil : (r id : ℕ) (key : List ℕ) → times_in r id key [] ≡ []
 unfolding times_in
 times_in-nil r id key = refl
 
+-- the times of the first decision, and of the others
 times_in-cons : (r id : ℕ) (key : List ℕ) (d : Decision) (ds : List Decision) → times_in r id key (d ∷ ds) ≡ cond (eqb d.resource r) (times_for id key d.asked.kinds) [] ++ times_in r id key ds
 unfolding times_in
 times_in-cons r id key d ds = refl
-
-acting_from-cons : (config : Config) (m : Map) (d : Decision) (ds : List Decision) → acting_from config m (d ∷ ds) ≡ cond (outcome_on config m d).verdict.acted (d ∷ []) [] ++ acting_from config (map_after config m d) ds
-unfolding acting_from
-acting_from-cons config m d ds = refl
 
 -- the step of a decision that gives no time here
 rises_other : (config : Config) (m : Map) (d : Decision) (r id : ℕ) (ys : List ℕ) → IsSoundKinds d.asked.kinds → RisesOver (floor_in (record_in (map_after config m d) r).kinds id []) ys → RisesOver (floor_in (record_in m r).kinds id []) ys
@@ -101,6 +103,7 @@ rises config m (d ∷ ds) r id sound =
       | false ↦ λ e. rises_other config m d r id (times_in r id [] (acting_from config (map_after config m d) ds)) sound.0 rest
     ]) refl
 
+-- nothing and nothing
 none_at : (b : Bool) (xs ys : List ℕ) → xs ≡ [] → ys ≡ [] → cond b xs [] ++ ys ≡ []
 none_at true xs ys x y = ap₂ (λ us vs. us ++ vs) x y
 none_at false xs ys x y = y
@@ -110,10 +113,12 @@ times_in-other : (r id n : ℕ) (key : List ℕ) (ds : List Decision) → times_
 times_in-other r id n key [] = times_in-nil r id (n ∷ key)
 times_in-other r id n key (d ∷ ds) = times_in-cons r id (n ∷ key) d ds ∙ none_at (eqb d.resource r) _ _ (times_for-other id n key d.asked.kinds) (times_in-other r id n key ds)
 
+-- no time rises
 rises_none : Rises []
 unfolding Rises
 rises_none = tt
 
+-- the times rise at each key
 times_rise : (config : Config) (m : Map) (ds : List Decision) → AreSound ds → (r id : ℕ) (key : List ℕ) → Rises (times_in r id key (acting_from config m ds))
 times_rise config m ds sound r id [] = (rises config m ds r id sound).0
 times_rise config m ds sound r id (n ∷ key) = subst Rises (sym (times_in-other r id n key (acting_from config m ds))) rises_none
@@ -133,22 +138,27 @@ each_puts config m (d ∷ ds) =
 abbrev HasFirst : List ℕ → Type 0
 HasFirst ts = (t : ℕ) × (us : List ℕ) × (ts ≡ t ∷ us)
 
+-- behind more times
 first_right : (xs ys : List ℕ) → HasFirst ys → HasFirst (xs ++ ys)
 first_right [] ys h = h
 first_right (x ∷ xs) ys h = (x, xs ++ ys, refl)
 
+-- behind times that may be there
 first_either : (b : Bool) (xs ys : List ℕ) → HasFirst ys → HasFirst (cond b xs [] ++ ys)
 first_either true xs ys h = first_right xs ys h
 first_either false xs ys h = h
 
+-- in times that are there
 first_at : (b : Bool) (xs ys : List ℕ) → b ≡ true → HasFirst xs → HasFirst (cond b xs [] ++ ys)
 first_at true xs ys e h = (h.0, h.1 ++ ys, ap (λ zs. zs ++ ys) h.2)
 first_at false xs ys e h = absurd (true≢false (sym e))
 
+-- some values give a time
 first_of : (vs : List Value) → not (eqb (length vs) 0) ≡ true → HasFirst (times_of [] vs)
 first_of [] e = absurd (true≢false (sym e))
 first_of (v ∷ vs) e = (v.stored.storage_time, times_of [] vs, ap (λ ts. ts ++ times_of [] vs) (times_of-whole v.stored.key v.stored.storage_time))
 
+-- a kind that puts a value gives a time
 first_of_kind : (a : AskedKind) → puts a ≡ true → HasFirst (times_of [] (values_of a))
 unfolding puts
 first_of_kind a e = first_of (values_of a) e
@@ -169,6 +179,7 @@ gives (a ∷ asked) e =
 abbrev Differs : Decision → Decision → Type 0
 Differs d e = (e.resource ≡ d.resource) × (e.asked ≡ d.asked) → ⊥
 
+-- by recursion over those decisions
 none_same : (d : Decision) (t id : ℕ) (us : List ℕ) → times_for id [] d.asked.kinds ≡ t ∷ us → (ds : List Decision) → AllByRecursion (λ n. t < n) (times_in d.resource id [] ds) → AllByRecursion (Differs d) ds
 none_same d t id us first [] h = tt
 none_same d t id us first (e ∷ ds) h = (differs, none_same d t id us first ds (each_right (λ n. t < n) (cond (eqb e.resource d.resource) (times_for id [] e.asked.kinds) []) (times_in d.resource id [] ds) all))
@@ -182,10 +193,12 @@ none_same d t id us first (e ∷ ds) h = (differs, none_same d t id us first ds 
         let later : AllByRecursion (λ n. t < n) ((t ∷ us) ++ times_in d.resource id [] ds) = subst (λ (ts : List ℕ). AllByRecursion (λ n. t < n) (ts ++ times_in d.resource id [] ds)) here all in
         absurd (omega (arith, later.0))
 
+-- what stands behind is later
 rises-later : (t : ℕ) (us ys : List ℕ) → Rises ((t ∷ us) ++ ys) → AllByRecursion (λ n. t < n) ys
 unfolding Rises
 rises-later t us ys h = each_right (λ n. t < n) us ys h.0
 
+-- the end of what rises rises
 rises-right : (xs ys : List ℕ) → Rises (xs ++ ys) → Rises ys
 unfolding Rises
 rises-right [] ys h = h
@@ -210,7 +223,7 @@ once config ds sound = record {
   times = times_rise config empty ds sound;
 }
 
--- legal or not
+-- legal decisions among them: which act is what the map makes of their requests, whatever they answered
 pub legal_once : (config : Config) (ds : List Decision) → AreSound ds → IsLegal config ds → IsOnce config ds
 legal_once config ds sound legal = once config ds sound
 

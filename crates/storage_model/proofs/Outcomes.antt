@@ -14,6 +14,7 @@ use Rattle.storage_model.specs.Verdict.{outcome_of, first_outcome, kept_outcome,
 abbrev pub record_after : Config → ℕ → ℕ → Record → StoreAsked → Record
 record_after config now resource x q = unwrap_or (outcome_of config now resource x q).next x
 
+-- by the cases of the answer that is kept
 turn_of : (code now : ℕ) (x : Record) (q : StoreAsked) (o : Option Kept) → (unwrap_or (option_map_or kept_outcome o (first_outcome code now x q)).next x).turn ≤ x.turn + 1
 unfolding first_outcome kept_outcome noted
 turn_of code now x q None = omega arith
@@ -24,6 +25,7 @@ pub turn-record_after : (config : Config) (now resource : ℕ) (x : Record) (q :
 unfolding outcome_of
 turn-record_after config now resource x q = turn_of (code_of config now resource x.kinds q.kinds) now x q (kept_for x.kept q.origin.0 q.id)
 
+-- by the cases of the answer that is kept
 kinds_of : (P : List KindRecord → Type 0) (code now : ℕ) (x : Record) (q : StoreAsked) → P x.kinds → (code ≡ 0 → P (kinds_after now q.kinds x.kinds)) → (o : Option Kept) → P (unwrap_or (option_map_or kept_outcome o (first_outcome code now x q)).next x).kinds
 unfolding first_outcome kept_outcome noted
 kinds_of P code now x q same put (Some kept) = same

@@ -16,10 +16,12 @@ repeat_outcome config m d kept e =
     let x : Record = record_in m d.resource in
     ap (λ (o : Option Kept). option_map_or kept_outcome o (first_outcome (code_of config d.time d.resource x.kinds d.asked.kinds) d.time x d.asked)) e
 
+-- the verdict
 pub repeat_answer : (config : Config) (m : Map) (d : Decision) (kept : Kept) → kept_for (record_in m d.resource).kept d.asked.origin.0 d.asked.id ≡ Some kept → ◌≡◌ {A = StoreVerdict} (outcome_on config m d).verdict (record { code = kept.code; counters = kept.counters; repeat = true; acted = false })
 unfolding kept_outcome
 repeat_answer config m d kept e = ap (λ (o : Outcome). o.verdict) (repeat_outcome config m d kept e)
 
+-- the map
 pub repeat_same : (config : Config) (m : Map) (d : Decision) (kept : Kept) → kept_for (record_in m d.resource).kept d.asked.origin.0 d.asked.id ≡ Some kept → map_after config m d ≡ m
 unfolding kept_outcome
 repeat_same config m d kept e = ap (λ (o : Outcome). changed m d.resource o.next) (repeat_outcome config m d kept e)

@@ -18,10 +18,12 @@ use Rattle.storage_model.specs.Decisions.{times_for, IsSoundKinds}
 abbrev pub times_of : List ℕ → List Value → List ℕ
 times_of key vs = flat_map (λ v. cond (is_eq (slice_cmp nat_cmp (key_of v.stored.key) key)) (v.stored.storage_time ∷ []) []) vs
 
+-- no kind gives no time
 pub times_for-nil : (id : ℕ) (key : List ℕ) → times_for id key [] ≡ []
 unfolding times_for
 times_for-nil id key = refl
 
+-- the times of the first kind, and of the others
 pub times_for-cons : (id : ℕ) (key : List ℕ) (a : AskedKind) (asked : List AskedKind) → times_for id key (a ∷ asked) ≡ cond (eqb a.kind id) (times_of key (values_of a)) [] ++ times_for id key asked
 unfolding times_for
 times_for-cons id key a asked = refl
@@ -30,6 +32,7 @@ times_for-cons id key a asked = refl
 pub times_of-whole : (key : SlotKey) (t : ℕ) → cond (is_eq (slice_cmp nat_cmp (key_of key) [])) (t ∷ []) [] ≡ t ∷ []
 times_of-whole Whole t = refl
 
+-- so no value has another key
 times_of-other : (n : ℕ) (key : List ℕ) (vs : List Value) → times_of (n ∷ key) vs ≡ []
 times_of-other n key [] = refl
 times_of-other n key (v ∷ vs) = one v.stored.key ∙ times_of-other n key vs
@@ -37,6 +40,7 @@ times_of-other n key (v ∷ vs) = one v.stored.key ∙ times_of-other n key vs
     one : (k : SlotKey) → cond (is_eq (slice_cmp nat_cmp (key_of k) (n ∷ key))) (v.stored.storage_time ∷ []) [] ++ times_of (n ∷ key) vs ≡ times_of (n ∷ key) vs
     one Whole = refl
 
+-- nothing in front
 pub either_nil : {X : Type 0} (b : Bool) (xs ys : List X) → xs ≡ [] → cond b xs [] ++ ys ≡ ys
 either_nil true xs ys e = ap (λ z. z ++ ys) e
 either_nil false xs ys e = refl
@@ -51,14 +55,17 @@ times_for-unnamed : (id : ℕ) (key : List ℕ) (asked : List AskedKind) → All
 times_for-unnamed id key [] h = times_for-nil id key
 times_for-unnamed id key (a ∷ asked) h = times_for-cons id key a asked ∙ ap (λ b. cond b (times_of key (values_of a)) [] ++ times_for id key asked) (ne_eqb a.kind id h.0) ∙ times_for-unnamed id key asked h.1
 
+-- one value gives at most one time
 one_or_none : (b : Bool) (t n : ℕ) (xs : List ℕ) → length xs ≤ n → length (cond b (t ∷ []) [] ++ xs) ≤ suc n
 one_or_none true t n xs h = omega arith
 one_or_none false t n xs h = omega arith
 
+-- values give at most as many times
 times_of-length : (key : List ℕ) (vs : List Value) → length (times_of key vs) ≤ length vs
 times_of-length key [] = omega arith
 times_of-length key (v ∷ vs) = one_or_none (is_eq (slice_cmp nat_cmp (key_of v.stored.key) key)) v.stored.storage_time (length vs) (times_of key vs) (times_of-length key vs)
 
+-- one more kind, of which the others differ
 few_step : (b : Bool) (xs ys : List ℕ) → length xs ≤ 1 → (b ≡ true → ys ≡ []) → length ys ≤ 1 → length (cond b xs [] ++ ys) ≤ 1
 few_step true xs ys x none y = subst (λ zs. length (xs ++ zs) ≤ 1) (sym (none refl)) (omega (arith, length-append xs []))
 few_step false xs ys x none y = y
@@ -77,19 +84,23 @@ pub each_append : {X : Type 0} (P : X → Type 0) (xs ys : List X) → AllByRecu
 each_append P [] ys h k = k
 each_append P (x ∷ xs) ys h k = (h.0, each_append P xs ys h.1 k)
 
+-- of each element of the second list
 pub each_right : {X : Type 0} (P : X → Type 0) (xs ys : List X) → AllByRecursion P (xs ++ ys) → AllByRecursion P ys
 each_right P [] ys h = h
 each_right P (x ∷ xs) ys h = each_right P xs ys h.1
 
+-- where the first list may be missing
 each_either : {X : Type 0} (P : X → Type 0) (b : Bool) (xs ys : List X) → (b ≡ true → AllByRecursion P xs) → AllByRecursion P ys → AllByRecursion P (cond b xs [] ++ ys)
 each_either P true xs ys h k = each_append P xs ys (h refl) k
 each_either P false xs ys h k = k
 
+-- what is equal compares as Equal
 is_Equal : (o : Ordering) → is_eq o ≡ true → o ≡ Equal
 is_Equal Less e = cc
 is_Equal Equal e = refl
 is_Equal Greater e = cc
 
+-- keys that compare as equal are equal
 same_key : (xs ys : List ℕ) → is_eq (slice_cmp nat_cmp xs ys) ≡ true → xs ≡ ys
 same_key xs ys e = slice_cmp-IsAntisymmetric nat_cmp-IsAntisymmetric xs ys (is_Equal (slice_cmp nat_cmp xs ys) e)
 
