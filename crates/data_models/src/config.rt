@@ -46,3 +46,16 @@ impl TryCopy for Config {
         })
     }
 }
+
+impl Config {
+    ghost use Rattle.std.specs.Prelude.{◌≡◌};
+    ghost use Rattle.data_models.specs.Configs.{kind_of};
+
+    /// The definition of a Kind-ID, where there is one.
+    #[tactic(auto, unfolding(crate::specs::Configs::kind_of))]
+    pub fn kind(&self, id: u32) -> Option<KindDef>
+        ensures { result ≡ kind_of self.now id }
+    {
+        self.kinds.as_slice().iter().copied().find(|kind| kind.id == id)
+    }
+}

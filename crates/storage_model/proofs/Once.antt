@@ -223,10 +223,6 @@ once config ds sound = record {
   times = times_rise config empty ds sound;
 }
 
--- legal decisions among them: which act is what the map makes of their requests, whatever they answered
-pub legal_once : (config : Config) (ds : List Decision) → AreSound ds → IsLegal config ds → IsOnce config ds
-legal_once config ds sound legal = once config ds sound
-
 -- the times of a Store that acts
 pub acting_over : (config : Config) (m : Map) (d : Decision) (id : ℕ) (key : List ℕ) → (outcome_on config m d).verdict.acted ≡ true → AllByRecursion (λ t. floor_in (record_in m d.resource).kinds id key < t) (times_for id key d.asked.kinds)
 acting_over config m d id key e =

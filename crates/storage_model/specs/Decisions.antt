@@ -38,25 +38,25 @@ abbrev pub IsLegal : Config → List Decision → Type 0
 IsLegal config ds = IsLegalFrom config empty ds
 
 -- the decisions that put a value
-pub acting_from : Config → Map → List Decision → List Decision
+unfoldable pub acting_from : Config → Map → List Decision → List Decision
 acting_from config m [] = []
 acting_from config m (d ∷ ds) = (if (outcome_on config m d).verdict.acted then d ∷ [] else []) ++ acting_from config (map_after config m d) ds
 
 -- the storage times that a Store gives for one slot
-pub times_for : ℕ → List ℕ → List AskedKind → List ℕ
+unfoldable pub times_for : ℕ → List ℕ → List AskedKind → List ℕ
 times_for kind key asked = flat_map (λ a. if a.kind == kind then flat_map (λ v. if is_eq (slice_cmp nat_cmp (key_of v.stored.key) key) then v.stored.storage_time ∷ [] else []) (values_of a) else []) asked
 
 -- the storage times that decisions give for one slot of a resource, in order
-pub times_in : ℕ → ℕ → List ℕ → List Decision → List ℕ
+unfoldable pub times_in : ℕ → ℕ → List ℕ → List Decision → List ℕ
 times_in resource kind key ds = flat_map (λ d. if d.resource == resource then times_for kind key d.asked.kinds else []) ds
 
 -- numbers that rise strictly
-pub Rises : List ℕ → Type 0
+unfoldable pub Rises : List ℕ → Type 0
 Rises [] = Unit {0}
 Rises (n ∷ ns) = AllByRecursion (λ m. n < m) ns × Rises ns
 
 -- no decision is the same Store as a later one: the same resource, origin, transaction id and groups
-pub NoneTwice : List Decision → Type 0
+unfoldable pub NoneTwice : List Decision → Type 0
 NoneTwice [] = Unit {0}
 NoneTwice (d ∷ ds) = AllByRecursion (λ e. (e.resource ≡ d.resource) × (e.asked ≡ d.asked) → ⊥) ds × NoneTwice ds
 
@@ -66,7 +66,7 @@ pub record IsOnce (config : Config) (ds : List Decision) : Type 0 where
   pub times : (resource kind : ℕ) (key : List ℕ) → Rises (times_in resource kind key (acting_from config empty ds))
 
 -- a Store names no kind twice, and one value of a single kind
-pub IsSoundKinds : List AskedKind → Type 0
+unfoldable pub IsSoundKinds : List AskedKind → Type 0
 IsSoundKinds [] = Unit {0}
 IsSoundKinds (a ∷ asked) = (length (values_of a) ≤ 1) × AllByRecursion (λ b. b.kind ≢ a.kind) asked × IsSoundKinds asked
 

@@ -48,7 +48,7 @@ unfoldable pub kind_after : ℕ → List KindRecord → AskedKind → KindRecord
 kind_after now kinds asked = record { kind = asked.kind; generation = generation_in kinds asked.kind + 1; append_floor = option_map_or (λ k. k.append_floor) (kind_in kinds asked.kind) 0; slots = map (slot_of now) (values_of asked) }
 
 -- a kind among others, by rising Kind-ID
-pub put_kind : KindRecord → List KindRecord → List KindRecord
+unfoldable pub put_kind : KindRecord → List KindRecord → List KindRecord
 put_kind k [] = k ∷ []
 put_kind k (j ∷ js) = if nat_lt j.kind k.kind then j ∷ put_kind k js else (if k.kind == j.kind then k ∷ js else k ∷ j ∷ js)
 

@@ -7,12 +7,12 @@ ghost use Rattle.data_models.specs.declared.stored_data.SlotKey.{SlotKey};
 ghost use Rattle.data_models.specs.Stored.{key_of};
 ghost use Rattle.storage_model.specs.declared.record.Kept.{Kept};
 ghost use Rattle.storage_model.specs.Records.{Map, record_in, floor_in, kept_for};
-ghost use Rattle.storage_model.specs.Decisions.{Decision, map_after, outcome_on, times_for, IsSoundKinds, AreSound, IsLegal, IsOnce};
+ghost use Rattle.storage_model.specs.Decisions.{Decision, map_after, outcome_on, times_for, IsSoundKinds, AreSound, IsOnce};
 ghost use Rattle.storage_model.specs.Laws.{IsWithin};
 
-/// Decisions that are legal let no Store act twice.
-pub fn legal_decisions_act_once()
-    ensures { (config : Config) (ds : List Decision) → AreSound ds → IsLegal config ds → IsOnce config ds }
+/// No Store acts twice, whatever comes in whichever order.
+pub fn stores_act_once()
+    ensures { (config : Config) (ds : List Decision) → AreSound ds → IsOnce config ds }
 {}
 
 /// The turn and the generation counters of a record are at most the number of decisions.

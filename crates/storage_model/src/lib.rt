@@ -7,8 +7,8 @@ mod request;
 mod verdict;
 
 pub use laws::{
-    acting_stores_are_newer, decisions_bound_counters, floors_never_fall, legal_decisions_act_once,
-    repeats_get_their_answer,
+    acting_stores_are_newer, decisions_bound_counters, floors_never_fall, repeats_get_their_answer,
+    stores_act_once,
 };
 pub use record::{Held, Kept, KindRecord, Record, Slot};
 pub use request::{AskedKind, StoreAsked, Value};

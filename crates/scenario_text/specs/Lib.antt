@@ -1,0 +1,5 @@
+pub mod Texts
+pub mod Scenarios
+pub mod Reading
+pub mod Reads
+pub mod Transcript

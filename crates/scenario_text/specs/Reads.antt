@@ -1,0 +1,17 @@
+-- What a reader of the code returned, beside what reading on lists finds.
+use Rattle.std.specs.Prelude.{◌≡◌, ℕ, ◌≤◌, length, Result, Ok, Err}
+use Rattle.scenario_text.specs.declared.draft.Draft.{Draft}
+use Rattle.scenario_text.specs.declared.draft.Draft.TheVariants as draft
+use Rattle.scenario_text.specs.declared.fault.TextFault.{TextFault}
+use Rattle.scenario_text.specs.declared.fault.TextFault.TheVariants.{BadLine, NoMemory}
+
+-- the scenario or the bad line, unless memory was missing
+abbrev pub Reads : {X : Type 0} → Result X TextFault → Result X ℕ → Type 0
+Reads (Ok x) read = read ≡ Ok x
+Reads (Err (BadLine n)) read = read ≡ Err n
+Reads (Err NoMemory) read = Unit {0}
+
+-- no more than n Stores and events are in a draft
+abbrev pub HasAtMost : ℕ → Draft → Type 0
+HasAtMost n (draft.Open s stores) = (stores ≤ n) × (length s.events ≤ n)
+HasAtMost n so_far = Unit {0}

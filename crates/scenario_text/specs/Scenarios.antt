@@ -1,0 +1,123 @@
+-- Which scenarios there are, and the text of each.
+use Rattle.std.specs.Prelude.{◌≡◌, ◌≢◌, ℕ, ◌+◌, ◌-◌, ◌^◌, ◌<◌, ◌≤◌, min, List, [], ◌∷◌, ◌++◌, length, map, filter, take, drop, not, true, Some}
+use Rattle.std.specs.List.{flat_map, enumerate_from, AllByRecursion}
+use Rattle.std.specs.Fmt.{decimal}
+use Rattle.hex.specs.Hex.{encode_lower}
+use Rattle.text_words.specs.Name.{IsName}
+use Rattle.text_words.specs.Id.{id_text}
+use Rattle.text_words.specs.Lines.{ended, lines_of, is_sound_line, is_passed_over}
+use Rattle.data_models.specs.declared.config.KindDef.{KindDef}
+use Rattle.data_models.specs.declared.config.Config.{Config}
+use Rattle.data_models.specs.declared.config.DataModel.TheVariants.{Single}
+use Rattle.data_models.specs.Configs.{kind_of}
+use Rattle.scenario_text.specs.declared.scenario.DeclaredNode.{DeclaredNode}
+use Rattle.scenario_text.specs.declared.scenario.Scenario.{Scenario}
+use Rattle.scenario_text.specs.declared.scenario.Event.{Event}
+use Rattle.scenario_text.specs.declared.scenario.EventKind.{EventKind}
+use Rattle.scenario_text.specs.declared.scenario.EventKind.TheVariants.{Store, Deliver}
+use Rattle.scenario_text.specs.declared.scenario.StoreEvent.{StoreEvent}
+use Rattle.scenario_text.specs.declared.fixed.Fixed.TheVariants as fixed
+use Rattle.scenario_text.specs.Texts.{text_of}
+
+-- the lines that declare the overlay, a kind and a node
+unfoldable pub overlay_line : List ℕ → List ℕ
+overlay_line name = text_of fixed.Overlay ++ name
+
+unfoldable pub kind_line : KindDef → List ℕ
+kind_line kind = text_of fixed.Kind ++ decimal kind.id ++ 32 ∷ [] ++ text_of fixed.Model ++ decimal kind.max_size ++ 32 ∷ [] ++ decimal 0
+
+unfoldable pub node_line : List ℕ → DeclaredNode → List ℕ
+node_line word node = word ++ decimal node.number ++ 32 ∷ [] ++ id_text node.node.0 ++ 32 ∷ [] ++ node.user
+
+-- the line of a Store by the client to the peer, under the client's own name
+unfoldable pub store_line : Scenario → StoreEvent → List ℕ
+store_line s e = text_of fixed.Store ++ decimal s.client.number ++ 32 ∷ [] ++ decimal s.peer.number ++ 32 ∷ 64 ∷ [] ++ s.client.user ++ 32 ∷ []
+    ++ text_of fixed.Group ++ decimal e.kind ++ 47 ∷ [] ++ text_of fixed.AnyGeneration ++ decimal e.time ++ 58 ∷ [] ++ decimal e.lifetime ++ 58 ∷ 43 ∷ [] ++ encode_lower e.value
+
+unfoldable pub deliver_line : ℕ → List ℕ
+deliver_line k = text_of fixed.Deliver ++ decimal k
+
+abbrev pub event_line : Scenario → EventKind → List ℕ
+event_line s (Store e) = store_line s e
+event_line s (Deliver k) = deliver_line k
+
+-- the lines of the declarations, in their order
+abbrev pub declaration_lines : Scenario → List (List ℕ)
+declaration_lines s = overlay_line s.config.name ∷ map kind_line s.config.kinds ++ node_line (text_of fixed.Peer) s.peer ∷ node_line (text_of fixed.Client) s.client ∷ []
+
+-- the kinds that a scenario declares: single kinds with one slot
+pub record IsDeclaredKind (kind : KindDef) : Type 0 where
+  pub id : kind.id < 2 ^ 32
+  pub model : kind.model ≡ Single
+  pub count : kind.max_count ≡ 1
+  pub size_from : 1 ≤ kind.max_size
+  pub size_to : kind.max_size ≤ 140000
+
+-- a node's number, its Node-ID, which is neither all zeros nor all ones (RFC 6940, 6.3.1.1), and its user's name
+pub record IsDeclaredNode (node : DeclaredNode) : Type 0 where
+  pub number_from : 1 ≤ node.number
+  pub number_to : node.number ≤ 9999
+  pub id_from : 1 ≤ node.node.0
+  pub id_to : node.node.0 < 2 ^ 128 - 1
+  pub user : IsName node.user
+
+-- a Store's kind is declared, and its value has at most 100 bytes and at most the kind's size
+pub record IsStoreEvent (config : Config) (e : StoreEvent) : Type 0 where
+  pub time : e.time < 2 ^ 64
+  pub lifetime : e.lifetime < 2 ^ 32
+  pub kind : (kind : KindDef) × (kind_of config e.kind ≡ Some kind) × (length e.value ≤ min 100 kind.max_size)
+  pub bytes : AllByRecursion (λ b. b < 256) e.value
+
+-- an event after this many Stores: only a request that was issued is delivered
+abbrev pub IsEvent : Config → ℕ → EventKind → Type 0
+IsEvent config stores (Store e) = IsStoreEvent config e
+IsEvent config stores (Deliver k) = (1 ≤ k) × (k ≤ stores)
+
+-- how many Stores there are after an event
+abbrev pub stores_after : ℕ → EventKind → ℕ
+stores_after stores (Store e) = stores + 1
+stores_after stores (Deliver k) = stores
+
+pub AreEvents : Config → ℕ → List Event → Type 0
+AreEvents config stores [] = Unit {0}
+AreEvents config stores (e ∷ es) = IsEvent config stores e.what × AreEvents config (stores_after stores e.what) es
+
+-- a scenario within its limits: one kind, one peer, one client of other number and Node-ID, and events
+pub record IsScenario (s : Scenario) : Type 0 where
+  pub name : IsName s.config.name
+  pub sequence : s.config.sequence ≡ 1
+  pub kinds : (kind : KindDef) × (s.config.kinds ≡ kind ∷ []) × IsDeclaredKind kind
+  pub peer : IsDeclaredNode s.peer
+  pub client : IsDeclaredNode s.client
+  pub numbers : s.client.number ≢ s.peer.number
+  pub ids : s.client.node.0 ≢ s.peer.node.0
+  pub events : AreEvents s.config 0 s.events
+
+-- the lines that say something, each with its number
+unfoldable pub said : List (List ℕ) → List (ℕ × List ℕ)
+said lines = filter (λ l. not (is_passed_over l.1)) (enumerate_from 1 lines)
+
+-- these lines say a scenario: its declarations in order, and then its events, each at its line
+pub record Say (lines : List (List ℕ)) (s : Scenario) : Type 0 where
+  pub sound : AllByRecursion (λ l. is_sound_line l ≡ true) lines
+  pub texts : map (λ l. l.1) (said lines) ≡ declaration_lines s ++ map (λ e. event_line s e.what) s.events
+  pub places : drop (length (declaration_lines s)) (map (λ l. l.0) (said lines)) ≡ map (λ e. e.line) s.events
+
+-- the text of a scenario: whole lines, each ended by a line feed, that say it
+pub record IsTextOf (text : List ℕ) (s : Scenario) : Type 0 where
+  pub scenario : IsScenario s
+  pub whole : (lines_of text).1 ≡ []
+  pub says : Say (lines_of text).0 s
+
+-- some scenario's text begins with these lines
+abbrev pub Begin : List (List ℕ) → Type 0
+Begin lines = (more : List ℕ) × (s : Scenario) × IsTextOf (flat_map ended lines ++ more) s
+
+-- line n is the first that is outside the grammar: the lines before it begin a scenario's text, and with it they don't; or it is
+-- the line behind the last whole one, and the text is no scenario's
+pub record IsFirstBad (text : List ℕ) (n : ℕ) : Type 0 where
+  pub counted : 1 ≤ n
+  pub within : n ≤ length (lines_of text).0 + 1
+  pub before : Begin (take (n - 1) (lines_of text).0)
+  pub there : n ≤ length (lines_of text).0 → Begin (take n (lines_of text).0) → ⊥
+  pub none : (s : Scenario) → IsTextOf text s → ⊥

@@ -1,0 +1,24 @@
+//! Why a text wasn't read.
+
+use reload_base::NoMemory;
+
+/// Why a text wasn't read.
+#[derive(Clone, Copy, Debug, PartialEq, Eq)]
+pub enum TextFault {
+    /// The first line that is outside the grammar, counted from 1; one more than the number of lines where
+    /// something is missing at the end.
+    BadLine(u64),
+    /// Memory is missing.
+    NoMemory,
+}
+
+impl From<NoMemory> for TextFault {
+    ghost use Rattle.std.specs.Prelude.{◌≡◌};
+    ghost use Rattle.scenario_text.specs.declared.fault.TextFault.TheVariants as fault;
+
+    ghost from_gives = { λ _ e. e ≡ fault.NoMemory };
+
+    fn from(_missing: NoMemory) -> TextFault {
+        TextFault::NoMemory
+    }
+}

@@ -1,0 +1,5 @@
+use Rattle.storage_model.proofs.Once.{once}
+use Rattle.storage_model.proofs.laws.stores_act_once.Goals as goal
+
+pub returns : goal.returns
+returns c = once
