@@ -13,6 +13,8 @@ mod sink;
 mod source;
 mod std_sink;
 mod std_source;
+#[cfg(test)]
+mod tests;
 mod writing;
 
 pub use calls::Calls;

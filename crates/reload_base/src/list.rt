@@ -115,8 +115,7 @@ impl<T: Drop> List<T> {
         ensures err { OnErr result (self.new ≡ self.old) }
     {
         if self.items.len() < most {
-            self.items.push(item)?;
-            return Ok(());
+            return self.push(item);
         }
         self.items.rotate_left(1);
         let last = self.items.len() - 1;
