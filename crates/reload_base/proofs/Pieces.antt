@@ -31,10 +31,11 @@ Consumes-end (Some xs) (Some ys) (Some zs) text p q e = (p ∙ ap (λ (l : List 
 -- a write that takes n bytes of the rest leaves the rest behind them
 pub Appends-more : (a b c : Option (List ℕ)) (front rest piece left : List ℕ) (n : ℕ) → front ++ rest ≡ piece → left ≡ drop n rest → Appends a b front → Appends b c (take n rest)
     → (written : List ℕ) × (written ++ left ≡ piece) × Appends a c written
-Appends-more a b c front rest piece left n whole behind p q =
-    (front ++ take n rest,
-        append_assoc front (take n rest) left ∙ ap (λ (l : List ℕ). front ++ l) (ap (λ (l : List ℕ). take n rest ++ l) behind ∙ take-append-drop n rest) ∙ whole,
-        Appends-then a b c front (take n rest) p q)
+Appends-more a b c front rest piece left n whole behind p q = (
+  front ++ take n rest,
+  append_assoc front (take n rest) left ∙ ap (λ (l : List ℕ). front ++ l) (ap (λ (l : List ℕ). take n rest ++ l) behind ∙ take-append-drop n rest) ∙ whole,
+  Appends-then a b c front (take n rest) p q,
+)
 
 -- a write that appends nothing leaves a front of the piece
 pub Appends-front : (a b c : Option (List ℕ)) (front rest piece : List ℕ) → front ++ rest ≡ piece → Appends a b front → Keeps b c

@@ -1,5 +1,5 @@
 -- What the calls of a fake do to its counters.
-use Rattle.std.specs.Prelude.{◌≡◌, ℕ, ◌+◌, ◌-◌, ◌^◌, ◌==◌, ◌&&◌, Bool, min, nat_lt, List, [], if◌then◌else◌}
+use Rattle.std.specs.Prelude.{◌≡◌, ℕ, ◌+◌, ◌-◌, ◌^◌, ◌==◌, ◌&&◌, Bool, min, nat_lt, [], if◌then◌else◌}
 use Rattle.std.specs.List.{list_any}
 use Rattle.reload_base.specs.declared.calls.Calls.{Calls}
 

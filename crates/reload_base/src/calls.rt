@@ -1,6 +1,6 @@
 //! The calls of a fake.
 
-ghost use Rattle.std.specs.Prelude.{◌≡◌, ◌≤◌, [], false, IsTrue, IfOk};
+ghost use Rattle.std.specs.Prelude.{◌≡◌, ◌≤◌, false, IsTrue, IfOk};
 ghost use Rattle.reload_base.specs.Outside.{Rose};
 
 use crate::list::List;
@@ -37,7 +37,8 @@ impl Calls {
         ensures after { self.new ≡ counted self.old }
         ensures later { self.old.faults ≤ self.new.faults }
         ensures failed { IsTrue result → Rose self.old.faults self.new.faults }
-        ensures faultless { IsFaultless self.old → (result ≡ false) × IsFaultless self.new × (self.new.faults ≡ self.old.faults) }
+        ensures faultless { IsFaultless self.old
+            → (result ≡ false) × IsFaultless self.new × (self.new.faults ≡ self.old.faults) }
     {
         if self.made == u64::MAX {
             return false;

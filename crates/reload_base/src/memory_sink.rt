@@ -1,6 +1,6 @@
 //! A sink into memory.
 
-ghost use Rattle.std.specs.Prelude.{◌≡◌, ℕ, ◌+◌, ◌<◌, ◌≤◌, ◌↔◌, [], Some, length, IsTrue, IfOk};
+ghost use Rattle.std.specs.Prelude.{◌≡◌, ℕ, ◌<◌, ◌≤◌, ◌↔◌, [], Some, length, IsTrue, IfOk};
 ghost use Rattle.reload_base.specs.Outside.{AppendsFront, Rose};
 ghost use Rattle.reload_base.specs.Fakes.{counted, next_fails, IsFaultless};
 
@@ -68,7 +68,8 @@ impl Sink for MemorySink {
         ensures whole { (n : ℕ) → result ≡ Wrote.Some n → n ≡ length piece.now }
         ensures fails { (result ≡ Wrote.Failed) ↔ IsTrue (next_fails self.old.1) }
         ensures calls { self.new.1 ≡ counted self.old.1 }
-        ensures faultless { IsFaultless self.old.1 → IsFaultless self.new.1 × (self.new.1.faults ≡ self.old.1.faults) }
+        ensures faultless { IsFaultless self.old.1
+            → IsFaultless self.new.1 × (self.new.1.faults ≡ self.old.1.faults) }
     {
         if self.calls.count() {
             return Wrote::Failed;

@@ -1,6 +1,6 @@
 //! A source over bytes in memory.
 
-ghost use Rattle.std.specs.Prelude.{◌≡◌, ◌+◌, ◌-◌, ◌*◌, ◌<◌, ◌≤◌, [], Some, min, length, IfOk, if◌then◌else◌};
+ghost use Rattle.std.specs.Prelude.{◌≡◌, ◌<◌, ◌≤◌, [], Some, min, length, IfOk, if◌then◌else◌};
 ghost use Rattle.reload_base.specs.Outside.{TakesFront, Rose};
 ghost use Rattle.reload_base.specs.Fakes.{counted, next_fails, IsFaultless};
 
@@ -62,9 +62,11 @@ impl Source for MemorySource {
         ensures bytes { TakesFront (Some self.old.0) (Some self.new.0) result buf.new }
         ensures later { self.old.1.faults ≤ self.new.1.faults }
         ensures failed { result ≡ Took.Failed → Rose self.old.1.faults self.new.1.faults }
-        ensures answer { result ≡ (if next_fails self.old.1 then Took.Failed else Took.Some (min (length self.old.0) (length buf.old))) }
+        ensures answer { result ≡ (if next_fails self.old.1 then Took.Failed
+            else Took.Some (min (length self.old.0) (length buf.old))) }
         ensures calls { self.new.1 ≡ counted self.old.1 }
-        ensures faultless { IsFaultless self.old.1 → IsFaultless self.new.1 × (self.new.1.faults ≡ self.old.1.faults) }
+        ensures faultless { IsFaultless self.old.1
+            → IsFaultless self.new.1 × (self.new.1.faults ≡ self.old.1.faults) }
     {
         if self.calls.count() {
             return Took::Failed;

@@ -33,9 +33,12 @@ impl<W: Write + Drop> Sink for StdSink<W> {
         requires { 0 < length piece.now }
         ensures bytes { AppendsFront None None result piece.now }
         ensures later { ⟦<StdSink<W> as Sink>⟧.faults self.old ≤ ⟦<StdSink<W> as Sink>⟧.faults self.new }
-        ensures failed { result ≡ Wrote.Failed → Rose (⟦<StdSink<W> as Sink>⟧.faults self.old) (⟦<StdSink<W> as Sink>⟧.faults self.new) }
-        ensures kept { (n : ℕ) → result ≡ Wrote.Some n → ⟦<StdSink<W> as Sink>⟧.faults self.new ≡ ⟦<StdSink<W> as Sink>⟧.faults self.old }
-        ensures once { result ≡ Wrote.Failed → ⟦<StdSink<W> as Sink>⟧.faults self.new ≡ raised (⟦<StdSink<W> as Sink>⟧.faults self.old) }
+        ensures failed { result ≡ Wrote.Failed
+            → Rose (⟦<StdSink<W> as Sink>⟧.faults self.old) (⟦<StdSink<W> as Sink>⟧.faults self.new) }
+        ensures once { result ≡ Wrote.Failed
+            → ⟦<StdSink<W> as Sink>⟧.faults self.new ≡ raised (⟦<StdSink<W> as Sink>⟧.faults self.old) }
+        ensures kept { (n : ℕ) → result ≡ Wrote.Some n
+            → ⟦<StdSink<W> as Sink>⟧.faults self.new ≡ ⟦<StdSink<W> as Sink>⟧.faults self.old }
         ensures memory { result ≢ Wrote.NoMemory }
     {
         match self.writer.write(piece) {

@@ -33,9 +33,12 @@ impl<R: Read + Drop> Source for StdSource<R> {
         requires { 0 < length buf.old }
         ensures bytes { TakesFront None None result buf.new }
         ensures later { ⟦<StdSource<R> as Source>⟧.faults self.old ≤ ⟦<StdSource<R> as Source>⟧.faults self.new }
-        ensures failed { result ≡ Took.Failed → Rose (⟦<StdSource<R> as Source>⟧.faults self.old) (⟦<StdSource<R> as Source>⟧.faults self.new) }
-        ensures kept { (n : ℕ) → result ≡ Took.Some n → ⟦<StdSource<R> as Source>⟧.faults self.new ≡ ⟦<StdSource<R> as Source>⟧.faults self.old }
-        ensures once { result ≡ Took.Failed → ⟦<StdSource<R> as Source>⟧.faults self.new ≡ raised (⟦<StdSource<R> as Source>⟧.faults self.old) }
+        ensures failed { result ≡ Took.Failed
+            → Rose (⟦<StdSource<R> as Source>⟧.faults self.old) (⟦<StdSource<R> as Source>⟧.faults self.new) }
+        ensures once { result ≡ Took.Failed
+            → ⟦<StdSource<R> as Source>⟧.faults self.new ≡ raised (⟦<StdSource<R> as Source>⟧.faults self.old) }
+        ensures kept { (n : ℕ) → result ≡ Took.Some n
+            → ⟦<StdSource<R> as Source>⟧.faults self.new ≡ ⟦<StdSource<R> as Source>⟧.faults self.old }
     {
         match self.reader.read(buf) {
             Ok(n) => Took::Some(n),

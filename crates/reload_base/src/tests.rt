@@ -104,7 +104,11 @@ fn a_sink_over_a_writer(rt: HostRuntime) -> Result<(), Fail> {
     assert_eq!(rt; full.write(b"ad"), Wrote::Failed, "no room is left");
     let mut broken = StdSink::new(Broken);
     assert_eq!(rt; write_all(&mut broken, b"a"), Err(WriteError::Failed));
-    assert_eq!(rt; write_all(&mut broken, b""), Ok(()), "an empty piece writes nothing");
+    assert_eq!(rt;
+        write_all(&mut broken, b""),
+        Ok(()),
+        "an empty piece writes nothing"
+    );
     Ok(())
 }
 
@@ -116,7 +120,13 @@ fn a_source_in_memory(rt: HostRuntime) -> Result<(), Fail> {
     for call in calls.iter_mut() {
         *call = source.read(&mut buf);
     }
-    let want = [Took::Some(4), Took::Failed, Took::Some(2), Took::Failed, Took::Some(0)];
+    let want = [
+        Took::Some(4),
+        Took::Failed,
+        Took::Some(2),
+        Took::Failed,
+        Took::Some(0),
+    ];
     assert_eq!(rt; calls, want);
     assert_eq!(rt; buf, *b"adlo");
 
@@ -130,7 +140,10 @@ fn a_source_in_memory(rt: HostRuntime) -> Result<(), Fail> {
     for (fail, most, want) in cases {
         let mut source = MemorySource::new(rt.alloc(), b"reload", fail)?;
         let got = read_all(rt.alloc(), &mut source, most);
-        assert_eq!(rt; got.as_ref().map(|text| text.as_slice()).map_err(|e| *e), want);
+        assert_eq!(rt;
+            got.as_ref().map(|text| text.as_slice()).map_err(|e| *e),
+            want
+        );
     }
     Ok(())
 }

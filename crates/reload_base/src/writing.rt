@@ -31,7 +31,8 @@ impl From<NoMemory> for WriteError {
 /// the piece's front stands in the sink.
 pub fn write_all<K: Sink>(sink: &mut K, piece: &[u8]) -> Result<(), WriteError>
     ensures whole { OnOk result (Appends (K.written sink.old) (K.written sink.new) piece.now) }
-    ensures prefix { OnErr result ((n : ℕ) × (n ≤ length piece.now) × Appends (K.written sink.old) (K.written sink.new) (take n piece.now)) }
+    ensures prefix { OnErr result ((n : ℕ) × (n ≤ length piece.now)
+        × Appends (K.written sink.old) (K.written sink.new) (take n piece.now)) }
     ensures later { K.faults sink.old ≤ K.faults sink.new }
     ensures failed { result ≡ Err WriteError.Failed → Rose (K.faults sink.old) (K.faults sink.new) }
 {

@@ -1,6 +1,5 @@
-use Rattle.std.proofs.Common.{rules, ◌≡◌, ℕ, ◌+◌, ◌<◌, ◌≤◌, length, take, List, ◌++◌, arith, length-append, length-take, refl}
+use Rattle.std.proofs.Common.{rules, ◌≡◌, take, ◌++◌, arith, length-append, length-take}
 use Rattle.std.proofs.lemmas.Result.{err_from_is_err_and}
-use Rattle.std.specs.Io.KnownBytes.{Consumes, IsAtEnd}
 use Rattle.reload_base.proofs.Pieces.{Consumes-then, Consumes-end}
 use Rattle.reload_base.proofs.reading.read_all.Goals as goal
 

@@ -1,5 +1,4 @@
-use Rattle.std.proofs.Common.{rules, ◌≡◌, ℕ, ◌≤◌, length, take, drop, List, [], ◌∷◌, ◌++◌}
-use Rattle.std.specs.Io.KnownBytes.{Appends}
+use Rattle.std.proofs.Common.{rules}
 use Rattle.reload_base.proofs.Pieces.{Appends-more, Appends-front}
 use Rattle.reload_base.proofs.writing.write_all.Goals as goal
 
@@ -8,7 +7,7 @@ pieces-preserved g c =
     let before = c.pieces.invariant.written in
     record {
       written = Appends-more _ _ _ before.0 c.pieces.rest.now _ _ c.in-Some.n before.1 c.split_at.ensures.back before.2 c.in-Some.ensures.bytes.2;
-      later = search rules
+      later = search rules;
     }
 
 pub returns-in-Failed-clause-prefix : goal.returns-in-Failed-clause-prefix

@@ -6,7 +6,7 @@ use Rattle.reload_base.proofs.writing.write_all.Given as goal
 abbrev pub invariant-pieces : goal.invariant-pieces
 invariant-pieces g l = record {
   written : (front : List ℕ) × (front ++ l.rest ≡ l.piece) × Appends (g.K.Sink.written l.fn.sink) (g.K.Sink.written l.sink) front;
-  later : g.K.Sink.faults l.fn.sink ≤ g.K.Sink.faults l.sink
+  later : g.K.Sink.faults l.fn.sink ≤ g.K.Sink.faults l.sink;
 }
 
 abbrev pub decreases-pieces : goal.decreases-pieces
