@@ -1,8 +1,8 @@
 -- What calls of a source or a sink do together, one after the other.
-use Rattle.std.proofs.Common.{◌≡◌, ℕ, ◌≤◌, List, [], ◌++◌, length, take, drop, Option, Some, None, IsSome, arith, sym, ap, subst, ◌∙◌, append_assoc, length-append}
+use Rattle.std.proofs.Common.{◌≡◌, ℕ, ◌≤◌, List, [], ◌++◌, length, take, drop, Option, arith, sym, ap, subst, ◌∙◌, append_assoc, append-nil, length-append}
 use Rattle.std.proofs.lemmas.List.{take-append-drop}
 use Rattle.std.proofs.Math.Seq.{take-append_seam}
-use Rattle.std.specs.Io.KnownBytes.{Appends, Consumes, Keeps, IsAtEnd}
+use Rattle.std.specs.Io.KnownBytes.{Appends, Consumes, Keeps}
 use Rattle.std.proofs.KnownBytes.{Appends-kept, Appends-nil, Appends-trans, Consumes-nil, Consumes-trans}
 
 -- what two writes append, one after the other
@@ -21,12 +21,9 @@ Consumes-then a b c x y = Consumes-trans a b c x y
 pub Consumes-none : (a : Option (List ℕ)) → Consumes a a []
 Consumes-none a = Consumes-nil a
 
--- a read that moves nothing ends what the reads before it took
-pub Consumes-end : (a b c : Option (List ℕ)) (text : List ℕ) → Consumes a b text → Consumes b c [] → IsAtEnd b → Consumes a c text × (IsSome a → IsAtEnd c)
-Consumes-end None b c text p q e = (tt, λ told. cc)
-Consumes-end (Some xs) None c text p q e = absurd p
-Consumes-end (Some xs) (Some ys) None text p q e = absurd q
-Consumes-end (Some xs) (Some ys) (Some zs) text p q e = (p ∙ ap (λ (l : List ℕ). text ++ l) q, λ _. sym q ∙ e)
+-- a read that moves nothing leaves what the reads before it took
+pub Consumes-rest : (a b c : Option (List ℕ)) (text : List ℕ) → Consumes a b text → Consumes b c [] → Consumes a c text
+Consumes-rest a b c text p q = subst (Consumes a c) (append-nil text) (Consumes-then a b c text [] p q)
 
 -- a write that takes n bytes of the rest leaves the rest behind them
 pub Appends-more : (a b c : Option (List ℕ)) (front rest piece left : List ℕ) (n : ℕ) → front ++ rest ≡ piece → left ≡ drop n rest → Appends a b front → Appends b c (take n rest)

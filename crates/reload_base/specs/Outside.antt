@@ -12,7 +12,7 @@ Rose before now = min (before + 1) (2 ^ 64 - 1) ≤ now
 
 -- A read that took n moved the first n bytes left to the buffer's front, none only at the end. A failed one took nothing.
 abbrev pub TakesFront : Option (List ℕ) → Option (List ℕ) → Took → List ℕ → Type 0
-TakesFront old new (took.Some n) buf = (n ≤ length buf) × Consumes old new (take n buf) × (n ≡ 0 → IsAtEnd old)
+TakesFront old new (took.Some n) buf = (n ≤ length buf) × Consumes old new (take n buf) × (n ≡ 0 → IsAtEnd new)
 TakesFront old new took.Failed buf = Keeps old new
 
 -- A write that took n appended the piece's first n bytes, at least one. Any other appended nothing.

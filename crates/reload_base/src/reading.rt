@@ -1,6 +1,6 @@
 //! Reading a source to its end.
 
-ghost use Rattle.std.specs.Prelude.{◌≡◌, ℕ, ◌^◌, ◌<◌, ◌≤◌, List, length, IsSome, IfOk, IfErr};
+ghost use Rattle.std.specs.Prelude.{◌≡◌, ℕ, ◌^◌, ◌<◌, ◌≤◌, List, length, IfOk, IfErr};
 ghost use Rattle.std.specs.Io.KnownBytes.{Consumes, IsAtEnd};
 ghost use Rattle.reload_base.specs.Outside.{Rose};
 ghost use Rattle.reload_base.specs.Whole.{StopsAt};
@@ -37,7 +37,7 @@ impl From<NoMemory> for ReadError {
 pub fn read_all<S: Source>(alloc: Global, source: &mut S, most: usize) -> Result<Bytes, ReadError>
     requires { most < 2 ^ 32 }
     ensures text { IfOk result (λ text. Consumes (S.left source.old) (S.left source.new) text
-        × (IsSome (S.left source.old) → IsAtEnd (S.left source.new)) × (length text ≤ most)) }
+        × IsAtEnd (S.left source.new) × (length text ≤ most)) }
     ensures stopped { IfErr result (λ e. (bytes : List ℕ)
         × Consumes (S.left source.old) (S.left source.new) bytes × StopsAt most bytes e) }
     ensures later { S.faults source.old ≤ S.faults source.new }

@@ -1,14 +1,13 @@
 use Rattle.std.proofs.Common.{rules, ◌≡◌, take, ◌++◌, arith, length-append, length-take}
 use Rattle.std.proofs.lemmas.Result.{err_from_is_err_and}
-use Rattle.reload_base.proofs.Pieces.{Consumes-then, Consumes-end}
+use Rattle.reload_base.proofs.Pieces.{Consumes-then, Consumes-rest}
 use Rattle.reload_base.proofs.reading.read_all.Goals as goal
 
 pub returns-in-Some-eq0-clause-text : goal.returns-in-Some-eq0-clause-text
 returns-in-Some-eq0-clause-text g c =
     let read = c.in-Some-eq0.ensures.bytes in
     let none : c.in-Some-eq0.field-0 ≡ 0 = search rules in
-    let ended = Consumes-end _ _ _ c.pieces.text c.pieces.invariant.taken (rw none at read.1) (read.2 none) in
-    (ended.0, ended.1, c.pieces.invariant.short)
+    (Consumes-rest _ _ _ c.pieces.text c.pieces.invariant.taken (rw none at read.1), read.2 none, c.pieces.invariant.short)
 
 pub returns-then-n-most-clause-stopped : goal.returns-then-n-most-clause-stopped
 returns-then-n-most-clause-stopped g c =
