@@ -1,0 +1,4 @@
+pub use Rattle.storage_model.specs.Records
+pub use Rattle.storage_model.specs.Verdict
+pub use Rattle.storage_model.specs.Decisions
+pub mod Counted
