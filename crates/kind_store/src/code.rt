@@ -29,7 +29,8 @@ fn is_unknown(config: &Config, asked: &AskedKind) -> bool
     definition_of(config, asked.kind).is_none()
 }
 
-fn any_unknown(config: &Config, asked: &[AskedKind]) -> bool
+/// Whether a Store names a kind that the configuration lacks.
+pub fn any_unknown(config: &Config, asked: &[AskedKind]) -> bool
     ensures { result ≡ list_any (verdict.is_unknown config.now) asked.now }
 {
     asked.iter().any(|kind| is_unknown(config, kind))
@@ -49,7 +50,8 @@ fn is_forbidden(resource: u128, asked: &AskedKind) -> bool
     values_in(asked).iter().any(|value| !is_permitted(resource, value))
 }
 
-fn any_forbidden(resource: u128, asked: &[AskedKind]) -> bool
+/// Whether a value's signer may not write the resource (RFC 6940, section 7.3.1).
+pub fn any_forbidden(resource: u128, asked: &[AskedKind]) -> bool
     ensures { result ≡ list_any (verdict.is_forbidden resource) asked.now }
 {
     asked.iter().any(|kind| is_forbidden(resource, kind))
@@ -62,7 +64,8 @@ fn asks_other_generation(kinds: &[KindRecord], asked: &AskedKind) -> bool
     asked.generation != 0 && asked.generation != generation_of(kinds, asked.kind)
 }
 
-fn any_asks_other_generation(kinds: &[KindRecord], asked: &[AskedKind]) -> bool
+/// Whether a generation counter is asked for that is neither 0 nor the stored one.
+pub fn any_asks_other_generation(kinds: &[KindRecord], asked: &[AskedKind]) -> bool
     ensures { result ≡ list_any (verdict.asks_other_generation kinds.now) asked.now }
 {
     asked.iter().any(|kind| asks_other_generation(kinds, kind))
@@ -77,7 +80,8 @@ fn is_too_old(kinds: &[KindRecord], asked: &AskedKind) -> bool
         .any(|value| value.stored.storage_time <= floor_of(kinds, asked.kind, key_bytes(&value.stored.key)))
 }
 
-fn any_too_old(kinds: &[KindRecord], asked: &[AskedKind]) -> bool
+/// Whether a storage time isn't greater than every one that its slot had before.
+pub fn any_too_old(kinds: &[KindRecord], asked: &[AskedKind]) -> bool
     ensures { result ≡ list_any (verdict.is_too_old kinds.now) asked.now }
 {
     asked.iter().any(|kind| is_too_old(kinds, kind))

@@ -2,6 +2,15 @@
 #![tactic(auto)]
 
 mod code;
+mod counters;
+mod decide;
+mod judge;
 mod lookup;
+mod note;
+mod put;
+mod shelf;
+mod sweep;
+mod weigh;
 
+pub use shelf::Shelf;
 pub use storage_model::{AskedKind, Held, Kept, KindRecord, Record, Slot, StoreAsked, StoreVerdict, Value};

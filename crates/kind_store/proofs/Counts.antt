@@ -1,0 +1,18 @@
+-- A generation counter that was counted so far can be counted once more.
+use Rattle.std.proofs.Common.{◌≡◌, ℕ, ◌+◌, ◌<◌, ◌^◌, ◌==◌, List, [], ◌∷◌, Bool, true, false, Option, Some, None, arith, lit<, cond}
+use Rattle.std.specs.Prelude.{find}
+use Rattle.std.specs.Option.{option_map_or}
+use Rattle.storage_model.specs.declared.record.KindRecord.{KindRecord}
+use Rattle.storage_model.specs.Records.{kind_in, generation_in}
+use Rattle.kind_store.specs.Counted.{AreCounted}
+
+-- what is found by a test is counted as all are
+found_counted : (test : KindRecord → Bool) (kinds : List KindRecord) → AreCounted kinds → option_map_or (λ k. k.generation) (find test kinds) 0 < 2 ^ 63
+found_counted test [] h = lit< tt
+found_counted test (k ∷ ks) h =
+    elim (test k) as (λ b. option_map_or (λ j. j.generation) (cond b (Some k) (find test ks)) 0 < 2 ^ 63) [ true ↦ h.0 | false ↦ found_counted test ks h.1 ]
+
+-- the counter of a kind can rise
+pub counted_generation : (kinds : List KindRecord) (id : ℕ) → AreCounted kinds → generation_in kinds id < 2 ^ 63
+unfolding generation_in kind_in
+counted_generation kinds id h = found_counted (λ k. k.kind == id) kinds h
