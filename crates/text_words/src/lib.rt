@@ -8,6 +8,8 @@ mod lines;
 mod name;
 mod separator;
 mod steps;
+#[cfg(test)]
+mod tests;
 
 pub use decimal::{decimal_of, put_decimal};
 pub use hex_word::{hex_of, put_hex};
