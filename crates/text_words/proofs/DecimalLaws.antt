@@ -17,6 +17,7 @@ abbrev read_on : ℕ → List ℕ → ℕ
 read_on n [] = n
 read_on n (digit ∷ digits) = read_on (n * 10 + (digit - 48)) digits
 
+-- the two stand for std's digits and their value
 own : IsNumeralModel (λ ds. list_all is_ascii_digit ds ≡ true) (read_on 0)
 own = numerals_by_fold _ (search rules) read_on (search rules)
 
@@ -34,6 +35,7 @@ with_digit-takes : (most n digit m : ℕ) → with_digit most n digit ≡ Some m
 unfolding with_digit
 with_digit-takes most n digit m e = grind (arith, nat_tests)
 
+-- a digit that makes no number over `most`
 with_digit-fits : (most n digit : ℕ) → is_ascii_digit digit ≡ true → n * 10 + (digit - 48) ≤ most → with_digit most n digit ≡ Some (n * 10 + (digit - 48))
 unfolding with_digit
 with_digit-fits most n digit is fits = grind (arith, nat_tests)
@@ -48,6 +50,7 @@ with_digits-takes most n (digit ∷ digits) m fits e =
     let later = with_digits-takes most step.0 digits m first.2 step.2 in
     (rw (first.0, later.0) refl, later.1 ∙ ap (λ k. read_on k digits) first.1, later.2)
 
+-- digits that make no number over `most`
 with_digits-fits : (most n : ℕ) (digits : List ℕ) → list_all is_ascii_digit digits ≡ true → read_on n digits ≤ most → with_digits most n digits ≡ Some (read_on n digits)
 unfolding with_digits
 with_digits-fits most n [] is fits = refl
@@ -60,6 +63,7 @@ with_digits-fits most n (digit ∷ digits) is fits =
 plain_parts : (length first : ℕ) → (length == 0 || (nat_lt 1 length && first == 48)) ≡ false → (0 < length) × (first ≡ 48 → length ≡ 1)
 plain_parts length first e = (grind (arith, nat_tests), λ zero. grind (arith, nat_tests))
 
+-- the same backwards
 plain_from_parts : (length first : ℕ) → 0 < length → (first ≡ 48 → length ≡ 1) → (length == 0 || (nat_lt 1 length && first == 48)) ≡ false
 plain_from_parts length first some lone = grind (arith, nat_tests)
 
@@ -68,6 +72,7 @@ unless_takes : (b : Bool) (o : Option ℕ) (n : ℕ) → cond b None o ≡ Some 
 unless_takes true o n e = cc
 unless_takes false o n e = (refl, e)
 
+-- a choice that is not stopped
 unless_false : (b : Bool) (o : Option ℕ) → b ≡ false → cond b None o ≡ o
 unless_false b o e = rw e refl
 

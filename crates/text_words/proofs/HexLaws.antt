@@ -28,6 +28,7 @@ abbrev all_pass : (ℕ → Bool) → ℕ → Bool
 all_pass test zero = true
 all_pass test (suc n) = test n && all_pass test n
 
+-- a number below n passed the test
 all_pass-at : (test : ℕ → Bool) (n k : ℕ) → all_pass test n ≡ true → k < n → test k ≡ true
 all_pass-at test zero k e below = absurd (omega arith)
 all_pass-at test (suc n) k e below =
@@ -37,9 +38,11 @@ all_pass-at test (suc n) k e below =
       | inr last ↦ let same : k ≡ n = omega arith in ap test same ∙ parts.0
     ]
 
+-- lower-case digits end at `f`
 lower_below : (digit : ℕ) → is_lower_digit digit ≡ true → digit < 103
 lower_below digit lower = grind (arith, nat_tests)
 
+-- what the test of one digit shows
 written_back : (lower : Bool) (found : Option ℕ) (digit value : ℕ) → (not lower || slice_index lower_digits (unwrap_or found 99) == digit) ≡ true → lower ≡ true → found ≡ Some value → slice_index lower_digits value ≡ digit
 written_back true (Some v) digit value pass lower e =
     ap (slice_index lower_digits) (sym (same_Some v value e)) ∙ eqb-true (slice_index lower_digits v) digit pass
@@ -65,6 +68,7 @@ both_ok : {A B : Type 0} (r : Result A FromHexError) (f : A → Result B FromHex
 both_ok (Ok x) f y e = (x, refl, e)
 both_ok (Err e) f y h = cc
 
+-- the value of a digit that was read
 digit_read : (digit at value : ℕ) (found : Option ℕ) → digit_or_error digit at found ≡ Ok value → found ≡ Some value
 digit_read digit at value (Some v) e = ap Some (ap (λ (r : Result ℕ FromHexError). result_unwrap_or r 0) e)
 digit_read digit at value None e = cc
@@ -159,6 +163,7 @@ hex_found word (Ok None) e = tt
 hex_found word (Ok (Some bytes)) e = hex_of-takes word bytes (sym e)
 hex_found word (Err failed) e = tt
 
+-- the text of bytes is answered by them
 pub hex_only : {E : Type 0} (word bytes : List ℕ) (found : Result (Option (List ℕ)) E) → IfOk found (λ r. r ≡ hex_of word) → AllBytes bytes → word ≡ encode_lower bytes → IfOk found (λ r. r ≡ Some bytes)
 hex_only word bytes (Ok r) e each is = e ∙ ap hex_of is ∙ hex_of-encode_lower bytes each
 hex_only word bytes (Err failed) e each is = tt

@@ -31,6 +31,7 @@ low_byte n j k =
 last_byte : (n : ℕ) → n % 256 ≡ n % 18446744073709551616 % 256
 last_byte n = omega arith
 
+-- the sixteen bytes of a number are those of its halves
 to_be_bytes-halves : (n : ℕ) → to_be_bytes w128 n ≡ to_be_bytes w64 (n / 2 ^ 64) ++ to_be_bytes w64 (n % 2 ^ 64)
 to_be_bytes-halves n = λ i.
     high_byte n (256 ^ 7) i ∷ high_byte n (256 ^ 6) i ∷ high_byte n (256 ^ 5) i ∷ high_byte n (256 ^ 4) i
@@ -38,15 +39,18 @@ to_be_bytes-halves n = λ i.
     ∷ low_byte n 0 56 i ∷ low_byte n 8 48 i ∷ low_byte n 16 40 i ∷ low_byte n 24 32 i
     ∷ low_byte n 32 24 i ∷ low_byte n 40 16 i ∷ low_byte n 48 8 i ∷ last_byte n i ∷ []
 
+-- equal parts make equal lists
 joined : {front front' back back' : List ℕ} → front ≡ front' → back ≡ back' → front ++ back ≡ front' ++ back'
 joined e f = λ i. e i ++ f i
 
+-- the front of bytes is bytes, past its end too
 small_take : (n : ℕ) (bytes : List ℕ) (k : ℕ) → ((k : ℕ) → get_or bytes k 0 < 256) → get_or (take n bytes) k 0 < 256
 small_take zero bytes k small = omega arith
 small_take (suc n) [] k small = omega arith
 small_take (suc n) (byte ∷ bytes) zero small = small 0
 small_take (suc n) (byte ∷ bytes) (suc k) small = small_take n bytes k (λ j. small (suc j))
 
+-- the number of sixteen bytes by its halves
 from_be_bytes-halves : (bytes : List ℕ) → from_be_bytes w128 bytes ≡ from_be_bytes w64 (take 8 bytes) * 2 ^ 64 + from_be_bytes w64 (drop 8 bytes)
 from_be_bytes-halves bytes = omega (arith, get_or-take {A = ℕ}, get_or-drop {A = ℕ})
 
@@ -85,6 +89,7 @@ byte_at-below : (i n : ℕ) → byte_at i n < 256
 byte_at-below zero n = omega arith
 byte_at-below (suc i) n = mod_below (n / 256 ^ suc i) 256 (omega arith)
 
+-- the lowest bytes of a number are bytes
 AllBytes-high_first : (k n : ℕ) → AllBytes (bytes_high_first k n)
 AllBytes-high_first zero n = All-nil (λ b. b < 256)
 AllBytes-high_first (suc k) n = All-cons (λ b. b < 256) (byte_at k n) (bytes_high_first k n) (byte_at-below k n) (AllBytes-high_first k n)
@@ -93,6 +98,7 @@ AllBytes-high_first (suc k) n = All-cons (λ b. b < 256) (byte_at k n) (bytes_hi
 pub AllBytes-to_be_bytes : (n : ℕ) → AllBytes (to_be_bytes w128 n)
 AllBytes-to_be_bytes n = AllBytes-high_first 16 n
 
+-- what was mapped to a value
 map_some : {A B : Type 0} (f : A → B) (o : Option A) (y : B) → option_map f o ≡ Some y → (x : A) × (o ≡ Some x) × (f x ≡ y)
 map_some f None y e = cc
 map_some f (Some x) y e = (x, refl, same_Some (f x) y e)

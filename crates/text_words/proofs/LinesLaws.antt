@@ -26,10 +26,12 @@ text_of (lines, rest) = flat_map ended lines ++ rest
 abbrev pub AreLines : List (List ℕ) × List ℕ → Type 0
 AreLines (lines, rest) = All (Lacks 10) lines × Lacks 10 rest
 
+-- a byte in front of the lines stands in front of the text
 text_of-onto : (byte : ℕ) (parts : List (List ℕ) × List ℕ) → text_of (onto_lines byte parts) ≡ byte ∷ text_of parts
 text_of-onto byte ([], rest) = refl
 text_of-onto byte (line ∷ lines, rest) = refl
 
+-- a byte that is no line feed keeps lines lines
 AreLines-onto : (byte : ℕ) (parts : List (List ℕ) × List ℕ) → byte ≢ 10 → AreLines parts → AreLines (onto_lines byte parts)
 AreLines-onto byte ([], rest) other are = (All-nil (Lacks 10), Lacks-cons 10 byte rest other are.1)
 AreLines-onto byte (line ∷ lines, rest) other are =
@@ -81,6 +83,7 @@ lines_of-only (line ∷ lines) rest each last =
     ∙ lines_of-line line (flat_map ended lines ++ rest) (All-head (Lacks 10) line lines each)
     ∙ ap (λ (parts : List (List ℕ) × List ℕ). (line ∷ parts.0, parts.1)) later
 
+-- by what is found round the first line feed
 first_by : (text : List ℕ) (found : Option (List ℕ × List ℕ)) → upto 10 text ≡ found → MatchOption found (lines_of text ≡ ([], text)) (λ r. lines_of text ≡ (r.0 ∷ (lines_of r.1).0, (lines_of r.1).1))
 first_by text None e = lines_of-rest text (upto-none 10 text e)
 first_by text (Some (line, later)) e =

@@ -6,15 +6,19 @@ use Rattle.std.proofs.lemmas.Bool.Decides.{nat_tests}
 use Rattle.std.proofs.lemmas.List.Sums.{AllPass-from_list_all, list_all-from_AllPass}
 use Rattle.text_words.specs.Name.{is_visible, is_name, IsName}
 
+-- what the test of a byte shows
 visible : (byte : ℕ) → is_visible byte ≡ true → (33 ≤ byte) × (byte ≤ 126)
 visible byte e = grind (arith, nat_tests)
 
+-- the same backwards
 visible_from : (byte : ℕ) → (33 ≤ byte) × (byte ≤ 126) → is_visible byte ≡ true
 visible_from byte h = grind (arith, nat_tests)
 
+-- what the test of a length shows
 sized : (n : ℕ) (b : Bool) → (nat_le 1 n && nat_le n 64 && b) ≡ true → (1 ≤ n) × (n ≤ 64) × (b ≡ true)
 sized n b e = grind (arith, nat_tests)
 
+-- the same backwards
 sized_from : (n : ℕ) (b : Bool) → 1 ≤ n → n ≤ 64 → b ≡ true → (nat_le 1 n && nat_le n 64 && b) ≡ true
 sized_from n b some short e = grind (arith, nat_tests)
 

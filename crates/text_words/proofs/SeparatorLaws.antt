@@ -36,19 +36,22 @@ behind_found now text bytes (Some rest) e = behind-takes text bytes (now rest) (
 
 -- ---- bytes that a word lacks
 
+-- no byte is in the empty word
 pub Lacks-nil : (byte : ℕ) → Lacks byte []
 unfolding Lacks
 Lacks-nil byte = refl
 
+-- another byte in front of a word that lacks it
 pub Lacks-cons : (byte first : ℕ) (word : List ℕ) → first ≢ byte → Lacks byte word → Lacks byte (first ∷ word)
 unfolding Lacks
 Lacks-cons byte first word other lacks = grind (arith, nat_tests)
 
--- another byte in front of a word that lacks it
+-- what lacks a byte doesn't begin with it, nor does the rest hold it
 pub Lacks-head : (byte first : ℕ) (word : List ℕ) → Lacks byte (first ∷ word) → (first ≢ byte) × Lacks byte word
 unfolding Lacks
 Lacks-head byte first word lacks = (λ same. grind (arith, nat_tests), grind (arith, nat_tests))
 
+-- two words that lack it, one behind the other
 pub Lacks-append : (byte : ℕ) (front back : List ℕ) → Lacks byte front → Lacks byte back → Lacks byte (front ++ back)
 Lacks-append byte [] back no_front no_back = no_back
 Lacks-append byte (first ∷ front) back no_front no_back =
@@ -76,12 +79,15 @@ places_from_Lacks byte (first ∷ word) (suc k) d lacks below = places_from_Lack
 
 -- ---- the first byte of a value
 
+-- a place that is within the list is answered
 chosen : (at most : ℕ) → at < most → cond (nat_lt at most) (Some at) None ≡ Some at
 chosen at most below = grind (arith, nat_tests)
 
+-- a place that isn't answered is past the list
 not_chosen : (at most : ℕ) → cond (nat_lt at most) (Some at) None ≡ None → most ≤ at
 not_chosen at most e = grind (arith, nat_tests)
 
+-- what is left behind a front and one byte
 drop_cons : (before : List ℕ) (byte : ℕ) (behind : List ℕ) → drop (suc (length before)) (before ++ byte ∷ behind) ≡ behind
 drop_cons [] byte behind = refl
 drop_cons (first ∷ before) byte behind = drop_cons before byte behind
@@ -139,6 +145,7 @@ upto-none byte bytes e =
     let past = position_missed test bytes none in
     Lacks-from_places byte bytes (λ k d below. fails_before_first test bytes k d (omega arith))
 
+-- a find in a text without the byte is none
 none_found : (byte : ℕ) (bytes : List ℕ) (found : Option (List ℕ × List ℕ)) → Lacks byte bytes → upto byte bytes ≡ found → found ≡ None
 none_found byte bytes None lacks e = refl
 none_found byte bytes (Some (before, behind)) lacks e =
@@ -150,15 +157,17 @@ none_found byte bytes (Some (before, behind)) lacks e =
 pub upto-lacks : (byte : ℕ) (bytes : List ℕ) → Lacks byte bytes → upto byte bytes ≡ None
 upto-lacks byte bytes lacks = none_found byte bytes (upto byte bytes) lacks refl
 
--- the same of the parts that a reader lends
+-- the parts that a reader lends, round that byte, make the whole
 pub upto_found : {Part : Type 0} (before behind : Part → List ℕ) (byte : ℕ) (bytes : List ℕ) (found : Option Part) → option_map (λ p. (before p, behind p)) found ≡ upto byte bytes → IfSome found (λ p. bytes ≡ before p ++ byte ∷ behind p)
 upto_found before behind byte bytes None e = tt
 upto_found before behind byte bytes (Some p) e = (upto-takes byte bytes (before p) (behind p) (sym e)).0
 
+-- the part before holds no such byte
 pub upto_first : {Part : Type 0} (before behind : Part → List ℕ) (byte : ℕ) (bytes : List ℕ) (found : Option Part) → option_map (λ p. (before p, behind p)) found ≡ upto byte bytes → IfSome found (λ p. Lacks byte (before p))
 upto_first before behind byte bytes None e = tt
 upto_first before behind byte bytes (Some p) e = (upto-takes byte bytes (before p) (behind p) (sym e)).1
 
+-- where a reader answers nothing there is no such byte
 pub upto_missed : {Part : Type 0} (before behind : Part → List ℕ) (byte : ℕ) (bytes : List ℕ) (found : Option Part) → option_map (λ p. (before p, behind p)) found ≡ upto byte bytes → IfNone found (Lacks byte bytes)
 upto_missed before behind byte bytes None e = upto-none byte bytes (sym e)
 upto_missed before behind byte bytes (Some p) e = tt

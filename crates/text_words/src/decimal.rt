@@ -1,3 +1,5 @@
+//! Decimals as words, at most of 64 bits.
+
 ghost use Rattle.std.specs.Prelude.{◌≡◌, ℕ, ◌≤◌, ◌++◌, Option, Some, IfSome, OnOk, OnErr};
 ghost use Rattle.std.specs.Fmt.{decimal};
 ghost use Rattle.text_words.specs.Decimal.{with_digit, with_digits, decimal_of};
@@ -14,6 +16,7 @@ pub fn decimal_of(most: u64, word: &[u8]) -> Option<u64>
     read(most, word)
 }
 
+// The same, by its first digits.
 #[tactic(auto, unfolding(crate::specs::Decimal::decimal_of))]
 fn read(most: u64, word: &[u8]) -> Option<u64>
     ensures { result ≡ decimal_of most word.now }
@@ -36,6 +39,7 @@ fn with_digits(most: u64, digits: &[u8]) -> Option<u64>
     Some(n)
 }
 
+// The number that a digit makes of the number before it. 128 bits hold ten times any of 64.
 #[tactic(auto, unfolding(crate::specs::Decimal::with_digit))]
 fn with_digit(most: u64, n: u64, digit: u8) -> Option<u64>
     ensures { result ≡ with_digit most n digit }

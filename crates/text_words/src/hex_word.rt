@@ -1,3 +1,5 @@
+//! Bytes as words of lower-case hex digits.
+
 ghost use Rattle.std.specs.Prelude.{◌≡◌, ℕ, ◌++◌, List, Some, IfSome, IfOk, OnOk, OnErr, length, take};
 ghost use Rattle.std.specs.List.{list_all};
 ghost use Rattle.hex.specs.Hex.{encode_lower};
@@ -17,6 +19,7 @@ pub fn hex_of(alloc: Global, word: &[u8]) -> Result<Option<Bytes>, NoMemory>
     read(alloc, word)
 }
 
+// The same: `decode` takes capitals too, so they are refused before.
 #[tactic(auto, unfolding(crate::specs::Hex::hex_of))]
 fn read(alloc: Global, word: &[u8]) -> Result<Option<Bytes>, NoMemory>
     ensures { IfOk result (λ found. found ≡ hex_of word.now) }

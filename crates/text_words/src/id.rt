@@ -1,3 +1,5 @@
+//! Node-IDs and Resource-IDs as words of 32 hex digits.
+
 ghost use Rattle.std.specs.Prelude.{◌≡◌, ℕ, ◌^◌, ◌<◌, ◌++◌, Some, IfSome, OnOk, OnErr};
 ghost use Rattle.text_words.specs.Id.{id_of, id_text};
 
@@ -13,6 +15,7 @@ pub fn id_of(word: &[u8]) -> Option<u128>
     read(word)
 }
 
+// The same: `decode_to_slice` takes capitals too, so they are refused before.
 #[tactic(auto, unfolding(crate::specs::Id::id_of))]
 fn read(word: &[u8]) -> Option<u128>
     ensures { result ≡ id_of word.now }

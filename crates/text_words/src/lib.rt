@@ -4,6 +4,7 @@
 mod decimal;
 mod hex_word;
 mod id;
+mod laws;
 mod lines;
 mod name;
 mod separator;
@@ -14,6 +15,7 @@ mod tests;
 pub use decimal::{decimal_of, put_decimal};
 pub use hex_word::{hex_of, put_hex};
 pub use id::{id_of, put_id};
+pub use laws::{lines_of_a_text, printed_words};
 pub use lines::{first_line, is_passed_over, is_sound_line};
 pub use name::is_name;
 pub use separator::{behind, upto};

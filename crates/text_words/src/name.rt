@@ -1,3 +1,5 @@
+//! Names as words.
+
 ghost use Rattle.std.specs.Prelude.{◌≡◌, ◌↔◌, IsTrue};
 ghost use Rattle.std.specs.List.{list_all};
 ghost use Rattle.text_words.specs.Name.{is_visible, is_name, IsName};

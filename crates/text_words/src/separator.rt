@@ -1,3 +1,5 @@
+//! Fixed texts, and bytes that separate words.
+
 ghost use Rattle.std.specs.Prelude.{◌≡◌, ℕ, ◌==◌, ◌<◌, List, length, position, ◌∷◌, ◌++◌, Option, Some, option_map, IfSome, IfNone};
 ghost use Rattle.std.specs.Option.{option_copied};
 ghost use Rattle.text_words.specs.Separator.{behind, upto, Lacks};
@@ -24,6 +26,7 @@ pub fn upto(byte: u8, bytes: &[u8]) -> Option<(&[u8], &[u8])>
     split_round(byte, bytes)
 }
 
+// The same, by the place of the byte.
 #[tactic(auto, unfolding(crate::specs::Separator::upto))]
 fn split_round(byte: u8, bytes: &[u8]) -> Option<(&[u8], &[u8])>
     ensures { option_map (λ r. (r.0.now, r.1.now)) result ≡ upto byte bytes.now }

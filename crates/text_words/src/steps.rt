@@ -1,3 +1,5 @@
+//! Tests as steps of a chain of readers.
+
 ghost use Rattle.std.specs.Prelude.{◌≡◌};
 ghost use Rattle.text_words.specs.Steps.{allowed};
 
