@@ -1,1 +1,12 @@
+pub mod BadLineLaws
+pub mod BadLineLawsCompletion
+pub mod Chains
+pub mod ChainsOfDeclarations
+pub mod ChainsOfEvents
+pub mod ChainsOfScenarios
+pub mod DeclarationLaws
+pub mod EventLaws
 pub mod ReadingLines
+pub mod TextLaws
+pub mod WordLaws
+pub mod ReadLaws

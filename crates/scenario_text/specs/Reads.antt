@@ -1,5 +1,6 @@
 -- What a reader of the code returned, beside what reading on lists finds.
-use Rattle.std.specs.Prelude.{◌≡◌, ℕ, ◌≤◌, length, Result, Ok, Err}
+use Rattle.std.specs.Prelude.{◌≡◌, ℕ, ◌≤◌, List, length, Result, Ok, Err}
+use Rattle.scenario_text.specs.Scenarios.{IsFirstBad}
 use Rattle.scenario_text.specs.declared.draft.Draft.{Draft}
 use Rattle.scenario_text.specs.declared.draft.Draft.TheVariants as draft
 use Rattle.scenario_text.specs.declared.fault.TextFault.{TextFault}
@@ -15,3 +16,8 @@ Reads (Err NoMemory) read = Unit {0}
 abbrev pub HasAtMost : ℕ → Draft → Type 0
 HasAtMost n (draft.Open s stores) = (stores ≤ n) × (length s.events ≤ n)
 HasAtMost n so_far = Unit {0}
+
+-- the line of a fault is the first that is outside the grammar
+abbrev pub IsBad : List ℕ → TextFault → Type 0
+IsBad text (BadLine n) = IsFirstBad text n
+IsBad text NoMemory = Unit {0}

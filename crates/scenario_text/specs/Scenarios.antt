@@ -78,7 +78,7 @@ abbrev pub stores_after : ℕ → EventKind → ℕ
 stores_after stores (Store e) = stores + 1
 stores_after stores (Deliver k) = stores
 
-pub AreEvents : Config → ℕ → List Event → Type 0
+unfoldable pub AreEvents : Config → ℕ → List Event → Type 0
 AreEvents config stores [] = Unit {0}
 AreEvents config stores (e ∷ es) = IsEvent config stores e.what × AreEvents config (stores_after stores e.what) es
 

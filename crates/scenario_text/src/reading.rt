@@ -2,9 +2,10 @@
 
 ghost use Rattle.std.specs.Prelude.{◌≡◌, ℕ, ◌+◌, ◌<◌, ◌≤◌, ◌^◌, length, IfOk, IfErr, IfSome, ◌-◌, option_map, Option, Some, Ok};
 ghost use Rattle.text_words.specs.Lines.{lines_of};
-ghost use Rattle.scenario_text.specs.Scenarios.{IsTextOf, IsFirstBad};
+ghost use Rattle.scenario_text.specs.Scenarios.{IsTextOf};
 ghost use Rattle.scenario_text.specs.Reading.{named, configured, peered, opened, event_at, with_line, said_at, line_at, whole_or_bad, reading_on, reading};
-ghost use Rattle.scenario_text.specs.Reads.{Reads, HasAtMost};
+ghost use Rattle.scenario_text.specs.Reads.{Reads, IsBad, HasAtMost};
+ghost use Rattle.scenario_text.specs.declared.scenario.Scenario.{Scenario};
 
 use crate::declarations::{kind_at, name_at, node_at};
 use crate::draft::Draft;
@@ -171,8 +172,8 @@ fn finished(so_far: Draft, n: u64, rest: &[u8]) -> Result<Scenario, TextFault>
     }
 }
 
-/// The scenario that a text spells, one line after the other.
-pub fn read_scenario(alloc: Global, text: &[u8]) -> Result<Scenario, TextFault>
+// Reads one line after the other.
+fn read(alloc: Global, text: &[u8]) -> Result<Scenario, TextFault>
     requires { length text.now < 2 ^ 62 }
     ensures reads { Reads result (reading text.now) }
     ensures few { IfOk result (λ s. length s.events ≤ length text.now) }
@@ -189,4 +190,19 @@ pub fn read_scenario(alloc: Global, text: &[u8]) -> Result<Scenario, TextFault>
         n += 1;
     }
     finished(so_far, n, rest)
+}
+
+/// The scenario of a text: the lines that aren't passed over declare the overlay, a kind, a peer and a client, in
+/// this order, and then tell the events.
+pub fn read_scenario(alloc: Global, text: &[u8]) -> Result<Scenario, TextFault>
+    requires { length text.now < 2 ^ 62 }
+    // What is read is spelled so, and what is spelled so is read.
+    ensures found { IfOk result (λ s. IsTextOf text.now s) }
+    ensures only { (s : Scenario) → IsTextOf text.now s → Reads result (Ok s) }
+
+    // A bad line is the first one.
+    ensures first_bad { IfErr result (IsBad text.now) }
+    ensures few { IfOk result (λ s. length s.events ≤ length text.now) }
+{
+    read(alloc, text)
 }

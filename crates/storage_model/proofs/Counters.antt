@@ -19,7 +19,7 @@ abbrev pub AreWithin : ℕ → List KindRecord → Type 0
 AreWithin n kinds = AllByRecursion (λ k. k.generation ≤ n) kinds
 
 -- what is within n is within n + 1
-more : (n : ℕ) (kinds : List KindRecord) → AreWithin n kinds → AreWithin (n + 1) kinds
+pub more : (n : ℕ) (kinds : List KindRecord) → AreWithin n kinds → AreWithin (n + 1) kinds
 more n [] h = tt
 more n (k ∷ kinds) h = (omega (arith, h.0), more n kinds h.1)
 

@@ -12,7 +12,7 @@ use Rattle.storage_model.specs.declared.request.AskedKind.{AskedKind}
 use Rattle.storage_model.specs.declared.request.StoreAsked.{StoreAsked}
 use Rattle.storage_model.specs.Records.{Map, record_in, floor_in, kept_for}
 use Rattle.storage_model.specs.Verdict.{values_of, puts, kinds_after, code_of, outcome_of, first_outcome, kept_outcome, noted}
-use Rattle.storage_model.specs.Decisions.{Decision, map_after, outcome_on, acting_from, times_for, times_in, Rises, NoneTwice, IsOnce, IsLegal, IsSoundKinds, AreSound}
+use Rattle.storage_model.specs.Decisions.{Decision, map_after, outcome_on, acting_from, times_for, times_in, Rises, NoneTwice, IsOnce, IsSoundKinds, AreSound}
 use Rattle.storage_model.proofs.Times.{times_of, times_of-whole, times_for-cons, times_for-few, times_for-over, times_for-other, each_right}
 use Rattle.storage_model.proofs.Floors.{last_of, floor_in-after, none_too_old, floor-map_after}
 use Rattle.storage_model.proofs.Maps.{record_in-same}

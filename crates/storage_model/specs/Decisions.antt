@@ -29,7 +29,7 @@ abbrev pub map_after : Config → Map → Decision → Map
 map_after config m d = changed m d.resource (outcome_on config m d).next
 
 -- each answer is that of the one map as the decisions before it left it
-pub IsLegalFrom : Config → Map → List Decision → Type 0
+unfoldable pub IsLegalFrom : Config → Map → List Decision → Type 0
 IsLegalFrom config m [] = Unit {0}
 IsLegalFrom config m (d ∷ ds) = (d.code ≡ (outcome_on config m d).verdict.code) × (d.counters ≡ (outcome_on config m d).verdict.counters) × IsLegalFrom config (map_after config m d) ds
 

@@ -1,0 +1,5 @@
+pub mod Keeps
+pub mod Loops
+pub mod Prefixes
+pub mod Runs
+pub mod Tops

@@ -1,0 +1,10 @@
+//! The top call: words, a source and a sink in, a status out.
+#![tactic(auto)]
+
+mod command;
+mod desk;
+mod run;
+mod status;
+
+pub use command::overlay;
+pub use status::Status;

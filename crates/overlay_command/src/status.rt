@@ -1,0 +1,35 @@
+//! How a call ends.
+
+/// How `overlay` ends.
+#[derive(Clone, Copy, Debug, PartialEq, Eq)]
+pub enum Status {
+    /// The input was read to its end, and the whole output was written.
+    Done,
+    /// The words are no form of a call.
+    Usage,
+    /// The source failed.
+    ReadFault,
+    /// The sink failed. A prefix of the output stands.
+    WriteFault,
+    /// Memory was missing. A prefix of the output stands.
+    NoMemory,
+    /// Some line is outside the grammar, and no event was run.
+    BadLine,
+    /// More than 16,777,216 bytes were read.
+    TooLong,
+}
+
+impl Status {
+    /// The exit status of a program that ends so.
+    pub fn code(self) -> u8 {
+        match self {
+            Status::Done => 0,
+            Status::Usage => 2,
+            Status::ReadFault => 3,
+            Status::WriteFault => 4,
+            Status::NoMemory => 5,
+            Status::BadLine => 6,
+            Status::TooLong => 7,
+        }
+    }
+}
