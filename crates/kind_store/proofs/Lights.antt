@@ -48,7 +48,7 @@ pub light_after : (config : Config) (now resource : ℕ) (x : Record) (q : Store
 unfolding outcome_of first_outcome noted code_of
 light_after config now resource x q h =
     by_kept x (kept_for x.kept q.origin.0 q.id) (first_outcome (code_of config now resource x.kinds q.kinds) now x q) h
-      (by_code (list_any (is_unknown config) q.kinds) (list_any (is_forbidden resource) q.kinds) (list_any (asks_other_generation x.kinds) q.kinds) (list_any (is_too_old x.kinds) q.kinds) (list_any (is_too_large config (kinds_after now q.kinds x.kinds)) q.kinds) (nat_lt 131072 (weight (kinds_after now q.kinds x.kinds))) (kinds_after now q.kinds x.kinds) x.kinds h (within (weight (kinds_after now q.kinds x.kinds))))
+    (by_code (list_any (is_unknown config) q.kinds) (list_any (is_forbidden resource) q.kinds) (list_any (asks_other_generation x.kinds) q.kinds) (list_any (is_too_old x.kinds) q.kinds) (list_any (is_too_large config (kinds_after now q.kinds x.kinds)) q.kinds) (nat_lt 131072 (weight (kinds_after now q.kinds x.kinds))) (kinds_after now q.kinds x.kinds) x.kinds h (within (weight (kinds_after now q.kinds x.kinds))))
 
 -- a resource that nobody wrote gets a record by its first decision
 pub next_of_empty : (config : Config) (now resource : ℕ) (q : StoreAsked) → IsSome (outcome_of config now resource empty_record q).next

@@ -32,24 +32,24 @@ get-map_of m q = get-from_entries nat_cmp_total m.entries q ∙ find-lookup q m.
 written : (m n : tree.BTreeMap ℕ Record) (r : ℕ) (x : Record) → Writes m n r x → map_of n ≡ insert (map_of m) r x
 written m n r x writes =
     same_map nat_cmp_total nat_cmp-IsAntisymmetric (map_of n) (insert (map_of m) r x) (λ q.
-      get-map_of n q
-      ∙ writes q
-      ∙ ap (λ b. cond b (Some x) (tree.get nat_cmp m q)) ((eq_by_cmp_equiv nat_cmp_total).symm r q)
-      ∙ ap (cond (eq_by_cmp nat_cmp q r) (Some x)) (sym (get-map_of m q))
-      ∙ sym (get-insert nat_cmp_total (map_of m) r x q))
+    get-map_of n q
+    ∙ writes q
+    ∙ ap (λ b. cond b (Some x) (tree.get nat_cmp m q)) ((eq_by_cmp_equiv nat_cmp_total).symm r q)
+    ∙ ap (cond (eq_by_cmp nat_cmp q r) (Some x)) (sym (get-map_of m q))
+    ∙ sym (get-insert nat_cmp_total (map_of m) r x q))
 
 -- a record that is written as it was changes nothing
 unchanged : (m n : tree.BTreeMap ℕ Record) (r : ℕ) (x : Record) → tree.get nat_cmp m r ≡ Some x → Writes m n r x → map_of n ≡ map_of m
 unchanged m n r x there writes =
     same_map nat_cmp_total nat_cmp-IsAntisymmetric (map_of n) (map_of m) (λ q.
-      get-map_of n q
-      ∙ writes q
-      ∙ (elim (nat_cmp r q) as (λ o. nat_cmp r q ≡ o → cond (is_eq o) (Some x) (tree.get nat_cmp m q) ≡ tree.get nat_cmp m q) [
-          | Less ↦ λ e. refl
-          | Equal ↦ λ e. sym there ∙ ap (tree.get nat_cmp m) (nat_cmp-IsAntisymmetric r q e)
-          | Greater ↦ λ e. refl
-        ] refl)
-      ∙ sym (get-map_of m q))
+    get-map_of n q
+    ∙ writes q
+    ∙ (elim (nat_cmp r q) as (λ o. nat_cmp r q ≡ o → cond (is_eq o) (Some x) (tree.get nat_cmp m q) ≡ tree.get nat_cmp m q) [
+      | Less ↦ λ e. refl
+      | Equal ↦ λ e. sym there ∙ ap (tree.get nat_cmp m) (nat_cmp-IsAntisymmetric r q e)
+      | Greater ↦ λ e. refl
+    ] refl)
+    ∙ sym (get-map_of m q))
 
 -- a record that is there, after a decision
 pub changed_there : (m n : tree.BTreeMap ℕ Record) (r : ℕ) (x : Record) (next : Option Record) → tree.get nat_cmp m r ≡ Some x → Writes m n r (unwrap_or next x) → map_of n ≡ changed (map_of m) r next

@@ -56,7 +56,7 @@ Replaces n k kinds i = (j : ℕ) × (i ≡ n + j) × (j < length kinds) × (put_
 
 Replaces-later : (n : ℕ) (k x : KindRecord) (xs : List KindRecord) (i : ℕ) → put_kind k (x ∷ xs) ≡ x ∷ put_kind k xs → Replaces (n + 1) k xs i → Replaces n k (x ∷ xs) i
 unfolding Replaces
-Replaces-later n k x xs i e (j , at , lt , same) = (suc j , omega (arith, at) , omega (arith, lt) , e ∙ ap (λ ys. x ∷ ys) same)
+Replaces-later n k x xs i e (j, at, lt, same) = (suc j, omega (arith, at), omega (arith, lt), e ∙ ap (λ ys. x ∷ ys) same)
 
 found : (n : ℕ) (k : KindRecord) (kinds : List KindRecord) (i : ℕ) → place_from n k.kind kinds ≡ Ok i → Replaces n k kinds i
 unfolding place_from Replaces
@@ -65,9 +65,9 @@ found n k (x ∷ xs) i e =
     elim (nat_lt x.kind k.kind) as (λ b. (if b then place_from (n + 1) k.kind xs else (if k.kind == x.kind then Ok n else Err n)) ≡ Ok i → put_kind k (x ∷ xs) ≡ (if b then x ∷ put_kind k xs else (if k.kind == x.kind then k ∷ xs else k ∷ x ∷ xs)) → Replaces n k (x ∷ xs) i) [
       | true ↦ λ p q. Replaces-later n k x xs i q (found (n + 1) k xs i p)
       | false ↦ elim (k.kind == x.kind) as (λ b. (if b then Ok n else Err n) ≡ Ok i → put_kind k (x ∷ xs) ≡ (if b then k ∷ xs else k ∷ x ∷ xs) → Replaces n k (x ∷ xs) i) [
-          | true ↦ λ p q. (0 , (let same : n ≡ i = cc in omega (arith, same)) , omega arith , q)
-          | false ↦ λ p q. absurd (cc)
-        ]
+        | true ↦ λ p q. (0, (let same : n ≡ i = cc in omega (arith, same)), omega arith, q)
+        | false ↦ λ p q. absurd (cc)
+      ]
     ] e (put_kind-cons k x xs)
 
 pub put_in_place : (k : KindRecord) (kinds : List KindRecord) (i : ℕ) → place_from 0 k.kind kinds ≡ Ok i → (i < length kinds) × (put_kind k kinds ≡ slice_set kinds i k)
@@ -75,7 +75,7 @@ unfolding Replaces
 put_in_place k kinds i e =
     let (j, at, lt, same) = found 0 k kinds i e in
     let here : j ≡ i = omega (arith, at) in
-    (omega (arith, here, lt) , same ∙ ap (λ m. slice_set kinds m k) here)
+    (omega (arith, here, lt), same ∙ ap (λ m. slice_set kinds m k) here)
 
 -- a kind that isn't there goes between the others
 Inserts : ℕ → KindRecord → List KindRecord → ℕ → Type 0
@@ -83,18 +83,18 @@ Inserts n k kinds i = (j : ℕ) × (i ≡ n + j) × (j ≤ length kinds) × (put
 
 Inserts-later : (n : ℕ) (k x : KindRecord) (xs : List KindRecord) (i : ℕ) → put_kind k (x ∷ xs) ≡ x ∷ put_kind k xs → Inserts (n + 1) k xs i → Inserts n k (x ∷ xs) i
 unfolding Inserts
-Inserts-later n k x xs i e (j , at , le , same) = (suc j , omega (arith, at) , omega (arith, le) , e ∙ ap (λ ys. x ∷ ys) same)
+Inserts-later n k x xs i e (j, at, le, same) = (suc j, omega (arith, at), omega (arith, le), e ∙ ap (λ ys. x ∷ ys) same)
 
 missed : (n : ℕ) (k : KindRecord) (kinds : List KindRecord) (i : ℕ) → place_from n k.kind kinds ≡ Err i → Inserts n k kinds i
 unfolding place_from Inserts
-missed n k [] i e = (0 , (let same : n ≡ i = cc in omega (arith, same)) , omega arith , put_kind-nil k)
+missed n k [] i e = (0, (let same : n ≡ i = cc in omega (arith, same)), omega arith, put_kind-nil k)
 missed n k (x ∷ xs) i e =
     elim (nat_lt x.kind k.kind) as (λ b. (if b then place_from (n + 1) k.kind xs else (if k.kind == x.kind then Ok n else Err n)) ≡ Err i → put_kind k (x ∷ xs) ≡ (if b then x ∷ put_kind k xs else (if k.kind == x.kind then k ∷ xs else k ∷ x ∷ xs)) → Inserts n k (x ∷ xs) i) [
       | true ↦ λ p q. Inserts-later n k x xs i q (missed (n + 1) k xs i p)
       | false ↦ elim (k.kind == x.kind) as (λ b. (if b then Ok n else Err n) ≡ Err i → put_kind k (x ∷ xs) ≡ (if b then k ∷ xs else k ∷ x ∷ xs) → Inserts n k (x ∷ xs) i) [
-          | true ↦ λ p q. absurd (cc)
-          | false ↦ λ p q. (0 , (let same : n ≡ i = cc in omega (arith, same)) , omega arith , q)
-        ]
+        | true ↦ λ p q. absurd (cc)
+        | false ↦ λ p q. (0, (let same : n ≡ i = cc in omega (arith, same)), omega arith, q)
+      ]
     ] e (put_kind-cons k x xs)
 
 pub put_between : (k : KindRecord) (kinds : List KindRecord) (i : ℕ) → place_from 0 k.kind kinds ≡ Err i → (i ≤ length kinds) × (put_kind k kinds ≡ insert kinds i k)
@@ -102,4 +102,4 @@ unfolding Inserts
 put_between k kinds i e =
     let (j, at, le, same) = missed 0 k kinds i e in
     let here : j ≡ i = omega (arith, at) in
-    (omega (arith, here, le) , same ∙ ap (λ m. insert kinds m k) here)
+    (omega (arith, here, le), same ∙ ap (λ m. insert kinds m k) here)

@@ -47,7 +47,9 @@ fn is_permitted(resource: u128, value: &Value) -> bool
 fn is_forbidden(resource: u128, asked: &AskedKind) -> bool
     ensures { result ≡ verdict.is_forbidden resource asked.now }
 {
-    values_in(asked).iter().any(|value| !is_permitted(resource, value))
+    values_in(asked)
+        .iter()
+        .any(|value| !is_permitted(resource, value))
 }
 
 /// Whether a value's signer may not write the resource (RFC 6940, section 7.3.1).
@@ -75,9 +77,8 @@ pub fn any_asks_other_generation(kinds: &[KindRecord], asked: &[AskedKind]) -> b
 fn is_too_old(kinds: &[KindRecord], asked: &AskedKind) -> bool
     ensures { result ≡ verdict.is_too_old kinds.now asked.now }
 {
-    values_in(asked)
-        .iter()
-        .any(|value| value.stored.storage_time <= floor_of(kinds, asked.kind, key_bytes(&value.stored.key)))
+    values_in(asked).iter().any(|value| value.stored.storage_time
+        <= floor_of(kinds, asked.kind, key_bytes(&value.stored.key)))
 }
 
 /// Whether a storage time isn't greater than every one that its slot had before.
@@ -90,13 +91,16 @@ pub fn any_too_old(kinds: &[KindRecord], asked: &[AskedKind]) -> bool
 fn any_passes_size(most: u32, values: &[Value]) -> bool
     ensures { result ≡ list_any (λ v. nat_lt most (length v.stored.value)) values.now }
 {
-    values.iter().any(|value| value.stored.value.len() > most as usize)
+    values
+        .iter()
+        .any(|value| value.stored.value.len() > most as usize)
 }
 
 fn passes_limits(kind: &KindDef, after: &[KindRecord], asked: &AskedKind) -> bool
     ensures { result ≡ (list_any (λ v. nat_lt kind.now.max_size (length v.stored.value)) (verdict.values_of asked.now) || nat_lt kind.now.max_count (option_map_or (λ k. length k.slots) (kind_in after.now asked.now.kind) 0)) }
 {
-    any_passes_size(kind.max_size, values_in(asked)) || slot_count(after, asked.kind) > kind.max_count as usize
+    any_passes_size(kind.max_size, values_in(asked))
+        || slot_count(after, asked.kind) > kind.max_count as usize
 }
 
 #[tactic(auto, unfolding(storage_model::specs::Verdict::is_too_large))]

@@ -10,7 +10,11 @@ use storage_model::{AskedKind, KindRecord};
 
 /// The named kinds with their generation counters, in the order of the request.
 #[tactic(auto, unfolding(storage_model::specs::Verdict::counters_in))]
-pub fn counters_in(alloc: Global, kinds: &[KindRecord], asked: &[AskedKind]) -> Result<List<(u32, u64)>, NoMemory>
+pub fn counters_in(
+    alloc: Global,
+    kinds: &[KindRecord],
+    asked: &[AskedKind],
+) -> Result<List<(u32, u64)>, NoMemory>
     ensures { IfOk result (λ counters. counters ≡ verdict.counters_in kinds.now asked.now) }
 {
     let mut counters = List::new(alloc);

@@ -9,7 +9,7 @@ ghost use Rattle.kind_store.specs.Judged.{refused_outcome, accepted_outcome};
 
 use crate::code::GENERATION_TOO_LOW;
 use crate::counters::counters_in;
-use crate::judge::{judge, Judgement};
+use crate::judge::{Judgement, judge};
 use crate::lookup::answer_to;
 use crate::note::note;
 use crate::put::puts;
@@ -69,7 +69,14 @@ fn decide_anew(
     ensures next { OnOk result (Some held.new ≡ (first_outcome (code_of config.now now resource held.old.kinds q.now.kinds) now held.old q.now).next) }
     ensures err { OnErr result (held.new ≡ held.old) }
 {
-    match judge(alloc, config, now, resource, held.kinds.as_slice(), q.kinds.as_slice())? {
+    match judge(
+        alloc,
+        config,
+        now,
+        resource,
+        held.kinds.as_slice(),
+        q.kinds.as_slice(),
+    )? {
         Judgement::Refused(code) => refuse(alloc, held, q, code),
         Judgement::Accepted(kinds) => accept(alloc, held, q, kinds),
     }
@@ -77,7 +84,12 @@ fn decide_anew(
 
 /// Refuses a Store: its kinds stay. After `NoMemory` the record is as before.
 #[tactic(auto, unfolding(crate::specs::Judged::refused_outcome))]
-fn refuse(alloc: Global, held: &mut Record, q: &StoreAsked, code: u16) -> Result<StoreVerdict, NoMemory>
+fn refuse(
+    alloc: Global,
+    held: &mut Record,
+    q: &StoreAsked,
+    code: u16,
+) -> Result<StoreVerdict, NoMemory>
     requires { held.old.turn < 2 ^ 63 }
     ensures verdict { IfOk result (λ v. v ≡ (refused_outcome code held.old q.now).verdict) }
     ensures next { OnOk result (Some held.new ≡ (refused_outcome code held.old q.now).next) }

@@ -6,11 +6,11 @@ ghost use Rattle.kind_store.specs.Judged as judged;
 ghost use Rattle.kind_store.specs.Judged.{judgement_of};
 
 use crate::code::{
-    any_asks_other_generation, any_forbidden, any_too_large, any_too_old, any_unknown, FORBIDDEN, GENERATION_TOO_LOW,
-    TOO_LARGE, TOO_OLD, UNKNOWN_KIND,
+    FORBIDDEN, GENERATION_TOO_LOW, TOO_LARGE, TOO_OLD, UNKNOWN_KIND, any_asks_other_generation,
+    any_forbidden, any_too_large, any_too_old, any_unknown,
 };
 use crate::put::kinds_after;
-use crate::weigh::{weight_of, MOST_WEIGHT};
+use crate::weigh::{MOST_WEIGHT, weight_of};
 use data_models::Config;
 use reload_base::{List, NoMemory};
 use std::alloc::Global;
@@ -51,7 +51,12 @@ pub fn judge(
 
 /// The code of the first test that a Store fails, of those that need no memory.
 #[tactic(auto, unfolding(crate::specs::Judged::early_code))]
-fn early_code(config: &Config, resource: u128, kinds: &[KindRecord], asked: &[AskedKind]) -> Option<u16>
+fn early_code(
+    config: &Config,
+    resource: u128,
+    kinds: &[KindRecord],
+    asked: &[AskedKind],
+) -> Option<u16>
     ensures { result ≡ judged.early_code config.now resource kinds.now asked.now }
 {
     if any_unknown(config, asked) {

@@ -13,4 +13,9 @@ mod sweep;
 mod weigh;
 
 pub use shelf::Shelf;
-pub use storage_model::{AskedKind, Held, Kept, KindRecord, Record, Slot, StoreAsked, StoreVerdict, Value};
+pub use storage_model::{
+    AskedKind, Held, Kept, KindRecord, Record, Slot, StoreAsked, StoreVerdict, Value,
+};
+
+#[cfg(test)]
+mod tests;

@@ -31,7 +31,9 @@ pub fn kind_at(kinds: &[KindRecord], id: u32) -> Option<&KindRecord>
 pub fn slot_at<'a>(slots: &'a [Slot], key: &[u8]) -> Option<&'a Slot>
     ensures { option_copied result ≡ slot_in slots.now key.now }
 {
-    slots.iter().find(|slot| slot.key.as_slice().cmp(&key).is_eq())
+    slots
+        .iter()
+        .find(|slot| slot.key.as_slice().cmp(&key).is_eq())
 }
 
 /// The generation counter of a kind.
@@ -81,7 +83,8 @@ pub fn slot_count(kinds: &[KindRecord], id: u32) -> usize
 pub fn answer_to(kept: &[Kept], origin: u128, id: u64) -> Option<&Kept>
     ensures { option_copied result ≡ kept_for kept.now origin id }
 {
-    kept.iter().find(|answer| answer.origin.0 == origin && answer.id == id)
+    kept.iter()
+        .find(|answer| answer.origin.0 == origin && answer.id == id)
 }
 
 /// The values of a kind, none where the kind is unknown.

@@ -105,7 +105,11 @@ fn place_of(kinds: &[KindRecord], id: u32) -> Result<usize, usize>
 {
     for (place, kind) in kinds.iter().enumerate() {
         if kind.kind >= id {
-            return if kind.kind == id { Ok(place) } else { Err(place) };
+            return if kind.kind == id {
+                Ok(place)
+            } else {
+                Err(place)
+            };
         }
     }
     Err(kinds.len())

@@ -40,8 +40,8 @@ invariant_of-self c =
     let writes : Writes c.self.inside.records after c.args.r.0 c.decide_on.new.held = ((c.get_mut.follows.holds c.decide_on.new.held).3 some).0 in
     let light = light_there c.self.inside.records c.args.r.0 c.in-Some.held.now c.self.invariant c.in-Some.ensures.value in
     light_written c.self.inside.records after c.args.r.0 c.decide_on.new.held c.self.invariant
-      (light_either c.decide_on.result c.in-Some.held.now c.decide_on.new.held _ light (light_after c.args.cfg.now c.args.now c.args.r.0 c.in-Some.held.now c.args.q.now light) c.decide_on.ensures.next c.decide_on.ensures.err)
-      writes
+    (light_either c.decide_on.result c.in-Some.held.now c.decide_on.new.held _ light (light_after c.args.cfg.now c.args.now c.args.r.0 c.in-Some.held.now c.args.q.now light) c.decide_on.ensures.next c.decide_on.ensures.err)
+    writes
 
 pub invariant_of-self-in-None : goal.invariant_of-self-in-None
 invariant_of-self-in-None c =
