@@ -14,15 +14,11 @@ use std::test::Fail;
 
 const ROOM: u64 = 0x8000_0000_0000_0000;
 
+#[tactic(auto, using(crate::proofs::Counts::all_counted))]
 fn are_counted(kinds: &[KindRecord]) -> bool
     ensures { IsTrue result → AreCounted kinds.now }
 {
-    for kind in kinds {
-        if kind.generation >= ROOM {
-            return false;
-        }
-    }
-    true
+    kinds.iter().all(|kind| kind.generation < ROOM)
 }
 
 fn is_counted(shelf: &Shelf, resource: ResourceId) -> bool
@@ -99,12 +95,12 @@ fn decided(
 #[test]
 fn answers_are_kept(rt: HostRuntime) -> Result<(), Fail> {
     let alloc = rt.alloc();
-    for (later, code, repeat) in [
-        (0, 0, true),
-        (1, 0, true),
-        (63, 0, true),
-        (64, 9, false),
+    for (end, code, repeat) in [
+        (2, 0, true),
+        (3, 0, true),
+        (65, 0, true),
         (66, 9, false),
+        (68, 9, false),
     ] {
         let mut shelf = Shelf::new(alloc);
         let first = decided(&rt, alloc, &mut shelf, 1, 5000)?;
@@ -112,8 +108,8 @@ fn answers_are_kept(rt: HostRuntime) -> Result<(), Fail> {
         assert_eq!(rt; first.counters.as_slice(), [(256, 1)].as_slice());
         assert!(rt; first.acted);
         assert!(rt; !first.repeat);
-        for id in 0..later {
-            let other = decided(&rt, alloc, &mut shelf, 2 + id, 5000)?;
+        for id in 2..end {
+            let other = decided(&rt, alloc, &mut shelf, id, 5000)?;
             assert_eq!(rt; other.code, 9);
             assert!(rt; other.counters.is_empty());
         }
