@@ -96,8 +96,11 @@ fn any_passes_size(most: u32, values: &[Value]) -> bool
         .any(|value| value.stored.value.len() > most as usize)
 }
 
-fn passes_limits(kind: &KindDef, after: &[KindRecord], asked: &AskedKind) -> bool
-    ensures { result ≡ (list_any (λ v. nat_lt kind.now.max_size (length v.stored.value)) (verdict.values_of asked.now) || nat_lt kind.now.max_count (option_map_or (λ k. length k.slots) (kind_in after.now asked.now.kind) 0)) }
+/// Whether a value passes the kind's size, or the kind its number of slots.
+fn passes_kind_limits(kind: &KindDef, after: &[KindRecord], asked: &AskedKind) -> bool
+    ensures { result ≡ (
+        list_any (λ v. nat_lt kind.now.max_size (length v.stored.value)) (verdict.values_of asked.now)
+        || nat_lt kind.now.max_count (option_map_or (λ k. length k.slots) (kind_in after.now asked.now.kind) 0)) }
 {
     any_passes_size(kind.max_size, values_in(asked))
         || slot_count(after, asked.kind) > kind.max_count as usize
@@ -108,7 +111,7 @@ fn is_too_large(config: &Config, after: &[KindRecord], asked: &AskedKind) -> boo
     ensures { result ≡ verdict.is_too_large config.now after.now asked.now }
 {
     match definition_of(config, asked.kind) {
-        Some(kind) => passes_limits(kind, after, asked),
+        Some(kind) => passes_kind_limits(kind, after, asked),
         None => false,
     }
 }

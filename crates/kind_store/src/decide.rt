@@ -65,8 +65,10 @@ fn decide_anew(
 ) -> Result<StoreVerdict, NoMemory>
     requires clock { now < 2 ^ 62 }
     requires counted { IsCounted held.old }
-    ensures verdict { IfOk result (λ v. v ≡ (first_outcome (code_of config.now now resource held.old.kinds q.now.kinds) now held.old q.now).verdict) }
-    ensures next { OnOk result (Some held.new ≡ (first_outcome (code_of config.now now resource held.old.kinds q.now.kinds) now held.old q.now).next) }
+    ensures verdict { IfOk result (λ v.
+        v ≡ (first_outcome (code_of config.now now resource held.old.kinds q.now.kinds) now held.old q.now).verdict) }
+    ensures next { OnOk result (
+        Some held.new ≡ (first_outcome (code_of config.now now resource held.old.kinds q.now.kinds) now held.old q.now).next) }
     ensures err { OnErr result (held.new ≡ held.old) }
 {
     match judge(
@@ -112,7 +114,8 @@ fn counters_told(
     kinds: &[KindRecord],
     asked: &[AskedKind],
 ) -> Result<List<(u32, u64)>, NoMemory>
-    ensures { IfOk result (λ counters. counters ≡ (if code == 5 then verdict.counters_in kinds.now asked.now else [])) }
+    ensures { IfOk result (λ counters.
+        counters ≡ (if code == 5 then verdict.counters_in kinds.now asked.now else [])) }
 {
     if code == GENERATION_TOO_LOW {
         counters_in(alloc, kinds, asked)

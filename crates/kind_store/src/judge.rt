@@ -37,7 +37,8 @@ pub fn judge(
 ) -> Result<Judgement, NoMemory>
     requires clock { now < 2 ^ 62 }
     requires counted { AreCounted kinds.now }
-    ensures { IfOk result (λ judgement. judgement ≡ judgement_of config.now now resource kinds.now asked.now) }
+    ensures { IfOk result (λ judgement.
+        judgement ≡ judgement_of config.now now resource kinds.now asked.now) }
 {
     if let Some(code) = early_code(config, resource, kinds, asked) {
         return Ok(Judgement::Refused(code));

@@ -67,7 +67,8 @@ impl Shelf {
         requires clock { now < 2 ^ 62 }
         requires counted { IsCounted (record_in self.old r.0) }
         ensures verdict { IfOk result (λ v. v ≡ (outcome_of cfg.now now r.0 (record_in self.old r.0) q.now).verdict) }
-        ensures shelf { OnOk result (self.new ≡ changed self.old r.0 (outcome_of cfg.now now r.0 (record_in self.old r.0) q.now).next) }
+        ensures shelf { OnOk result (
+            self.new ≡ changed self.old r.0 (outcome_of cfg.now now r.0 (record_in self.old r.0) q.now).next) }
         ensures err { OnErr result (self.new ≡ self.old) }
     {
         let alloc = self.alloc;
