@@ -1,6 +1,6 @@
 -- The kinds after a Store, step by step and at once.
 use Rattle.std.proofs.lemmas.Bool.Decides.{nat_tests}
-use Rattle.std.proofs.Common.{suc, ◌≤◌, get_or, drop-cons, add-one, ◌≡◌, ℕ, ◌+◌, ◌<◌, ◌==◌, ◌&&◌, List, [], ◌∷◌, Bool, true, false, not, Result, Ok, Err, length, take, drop, refl, ap, sym, ◌∙◌, cond, arith}
+use Rattle.std.proofs.Common.{suc, ◌≤◌, get_or, drop-cons, add-one, ◌≡◌, ℕ, ◌+◌, ◌<◌, ◌==◌, ◌&&◌, List, [], ◌∷◌, Bool, true, false, not, Ok, Err, length, drop, refl, ap, ◌∙◌, cond, arith}
 use Rattle.std.proofs.Math.ListN.{drop_of_length-le}
 use Rattle.std.specs.Prelude.{nat_lt, if◌then◌else◌, map, filter, fold, insert, slice_set}
 use Rattle.std.specs.List.{list_any}

@@ -1,5 +1,5 @@
 -- Which records have room for one more count.
-use Rattle.std.specs.Prelude.{ℕ, ◌<◌, ◌^◌, List}
+use Rattle.std.specs.Prelude.{◌<◌, ◌^◌, List}
 use Rattle.std.specs.List.{AllByRecursion}
 use Rattle.storage_model.specs.declared.record.KindRecord.{KindRecord}
 use Rattle.storage_model.specs.declared.record.Record.{Record}

@@ -1,4 +1,4 @@
-use Rattle.std.proofs.Common.{◌≡◌, ◌∙◌, sym, ap, Ok, Err}
+use Rattle.std.proofs.Common.{◌≡◌, ◌∙◌, sym, Ok, Err}
 use Rattle.kind_store.specs.Put.{place_from}
 use Rattle.kind_store.proofs.Puts.{put_in_place, put_between}
 use Rattle.kind_store.proofs.put.put_kind.Goals as goal

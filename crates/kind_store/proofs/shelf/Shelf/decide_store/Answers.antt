@@ -1,12 +1,12 @@
-use Rattle.std.proofs.Common.{◌≡◌, ◌∙◌, sym, ap, subst, Ok, Err}
-use Rattle.std.specs.Prelude.{IsSome, is_some, IfOk, OnOk, OnErr, unwrap_or}
+use Rattle.std.proofs.Common.{◌≡◌, ◌∙◌, sym, ap, subst}
+use Rattle.std.specs.Prelude.{IsSome, is_some, IfOk, unwrap_or}
 use Rattle.std.specs.Ordering.{nat_cmp}
 use Rattle.std.specs.BTreeMap as tree
-use Rattle.storage_model.specs.Records.{record_in, empty_record}
-use Rattle.storage_model.specs.Verdict.{outcome_of, changed}
+use Rattle.storage_model.specs.Records.{empty_record}
+use Rattle.storage_model.specs.Verdict.{outcome_of}
 use Rattle.kind_store.specs.Counted.{IsCounted}
 use Rattle.kind_store.specs.Light.{IsLight}
-use Rattle.kind_store.proofs.Maps.{map_of, Writes}
+use Rattle.kind_store.proofs.Maps.{Writes}
 use Rattle.std.proofs.lemmas.Result.{on_ok_weaker, on_err_weaker}
 use Rattle.kind_store.proofs.Lights.{light_empty, light_after, light_written}
 use Rattle.kind_store.proofs.Shelves.{record_there, record_missing, decided_there, decided_new, stayed, light_there, light_either}
