@@ -1,0 +1,50 @@
+//! The program: the words of its call, standard input and standard output, handed to the top call.
+#![tactic(auto)]
+
+use overlay_command::{Status, overlay};
+use reload_base::{StdSink, StdSource};
+use std::alloc::AllocError;
+use std::env::{Env, FillError};
+use std::process::ExitCode;
+use std::str;
+
+// The most bytes of a word that some form of a call may have.
+const LONGEST: usize = 64;
+
+// A word of the call: number 0 is the program's own name. A word that is too long or isn't text stands as the
+// empty word, which no form of a call has either.
+fn word<R: Env + AllocGlobal>(rt: &R, index: usize) -> Result<Option<String>, AllocError> {
+    let mut room = [0; LONGEST];
+    let length = match rt.arg(index, &mut room) {
+        Ok(length) => length,
+        Err(FillError::TooLong) => 0,
+        Err(FillError::NotPresent) => return Ok(None),
+    };
+    let text = str::from_utf8(&room[..length]).unwrap_or("");
+    Ok(Some(String::from_str(rt.alloc(), text)?))
+}
+
+// The words after the program's own name.
+fn words<R: Env + AllocGlobal>(rt: &R) -> Result<Vec<String>, AllocError> {
+    let mut words = Vec::new(rt.alloc());
+    for index in 1..usize::MAX {
+        match word(rt, index)? {
+            Some(word) => words.push(word)?,
+            None => break,
+        }
+    }
+    Ok(words)
+}
+
+fn main(rt: HostRuntime) -> ExitCode {
+    let status = match words(&rt) {
+        Ok(words) => overlay(
+            rt.alloc(),
+            &words,
+            &mut StdSource::new(rt.stdin()),
+            &mut StdSink::new(rt.stdout()),
+        ),
+        Err(AllocError) => Status::NoMemory,
+    };
+    ExitCode::from(status.code())
+}
