@@ -1,9 +1,12 @@
-//! Node-IDs and Resource-IDs of 128 bits (RFC 6940, sections 6.3.1.1 and 10.2).
+//! Node-IDs and Resource-IDs of 128 bits (RFC 6940, sections 6.3.1.1 and 10.2), and the ring that they form.
 #![tactic(auto)]
 
 ghost use Rattle.std.specs.Prelude.{◌≡◌};
-ghost use Rattle.reload_ids.specs.Ids.{resource_id};
+ghost use Rattle.reload_ids.specs.Ids.{resource_id, overlay_id};
 
+mod ring;
+
+pub use ring::{between, distance, ppb};
 use sha1::Sha1;
 
 /// The place of a node on the ring.
@@ -25,3 +28,16 @@ pub fn resource_of(name: &[u8]) -> ResourceId
         d[14], d[15],
     ]))
 }
+
+/// The number that stands for an overlay in each message: the last 4 of the 20 bytes of the SHA-1 of its name
+/// (RFC 6940, section 6.3.2).
+#[tactic(auto, unfolding(crate::specs::Ids::overlay_id))]
+pub fn overlay_of(name: &[u8]) -> u32
+    ensures { result ≡ overlay_id name.now }
+{
+    let d = Sha1::digest(name);
+    u32::from_be_bytes([d[16], d[17], d[18], d[19]])
+}
+
+#[cfg(test)]
+mod tests;
