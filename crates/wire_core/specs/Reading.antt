@@ -1,0 +1,113 @@
+-- Reading from the front of a part: a value and what is left of the part, or the first fault.
+use Rattle.std.specs.Prelude.{◌≡◌, ℕ, zero, suc, ◌+◌, List, [], ◌∷◌, length, take, Bool, Result, Ok, Err, nat_lt, nat_le, ◌==◌, if◌then◌else◌}
+use Rattle.byteorder.specs.Endian.{big_number}
+use Rattle.wire_core.specs.declared.bad.Bad.{Bad}
+use Rattle.wire_core.specs.declared.bad.Reason.{Reason}
+use Rattle.wire_core.specs.declared.bad.Reason.TheVariants.{Short, LengthPast, BadValue, Trailing}
+use Rattle.wire_core.specs.declared.bad.DecodeFault.{DecodeFault}
+use Rattle.wire_core.specs.declared.bad.DecodeFault.TheVariants as faults
+use Rattle.wire_core.specs.Part.{Part, end_of, behind}
+
+-- from a part to a value and what is left, or to the first fault
+abbrev pub Reader : Type 0 → Type 0
+Reader A = Part → Result (A × Part) Bad
+
+-- what was read, and then what follows
+abbrev pub and_then : {A B : Type 0} → Result (A × Part) Bad → (A → Reader B) → Result (B × Part) Bad
+and_then (Ok x) next = next x.0 x.1
+and_then (Err bad) next = Err bad
+
+-- a field, and then what follows
+infixl 10 ◌>>=◌
+abbrev pub ◌>>=◌ : {A B : Type 0} → Reader A → (A → Reader B) → Reader B
+◌>>=◌ read next p = and_then (read p) next
+
+-- a test, and then what follows
+infixl 10 ◌>>◌
+abbrev pub ◌>>◌ : {B : Type 0} → Reader (Unit {0}) → Reader B → Reader B
+◌>>◌ test next p = and_then (test p) (λ _. next)
+
+-- a value without a further byte
+abbrev pub done : {A : Type 0} → A → Reader A
+done x p = Ok (x, p)
+
+-- a fault
+abbrev pub refused : {A : Type 0} → ℕ → Reason → Reader A
+refused place reason p = Err (record { place = place; reason = reason })
+
+-- a fault unless the test holds
+abbrev pub allowed : Bool → ℕ → Reason → Reader (Unit {0})
+allowed test place reason = if test then done tt else refused place reason
+
+-- the place of the next byte
+abbrev pub place_at : Reader ℕ
+place_at p = Ok (p.place, p)
+
+-- a fault unless the part is at its end
+abbrev pub ended : Reader (Unit {0})
+ended p = allowed (length p.bytes == 0) p.place Trailing p
+
+-- all bytes that are left
+abbrev pub rest_at : Reader (List ℕ)
+rest_at p = Ok (p.bytes, record { place = end_of p; bytes = [] })
+
+-- the next n bytes
+unfoldable pub bytes_at : ℕ → Reader (List ℕ)
+bytes_at n p = if nat_lt (length p.bytes) n then refused (end_of p) Short p else Ok (take n p.bytes, behind n p)
+
+-- a number in n bytes, the highest first
+unfoldable pub number_at : ℕ → Reader ℕ
+number_at n = do
+  front ← bytes_at n
+  done (big_number n front)
+
+-- one byte, 0 or 1
+unfoldable pub boolean_at : Reader Bool
+boolean_at = do
+  place ← place_at
+  n ← number_at 1
+  allowed (nat_lt n 2) place BadValue
+  done (n == 1)
+
+-- the next len bytes as a part of their own, where their length stands at a place
+unfoldable pub stretch_at : ℕ → ℕ → Reader Part
+stretch_at place len p =
+    if nat_lt (length p.bytes) len then refused place LengthPast p
+    else Ok (record { place = p.place; bytes = take len p.bytes }, behind len p)
+
+-- a length in n bytes, and so many bytes as a part of their own
+unfoldable pub part_at : ℕ → Reader Part
+part_at n = do
+  place ← place_at
+  len ← number_at n
+  stretch_at place len
+
+-- what fills a part of its own, and then reading goes on behind that part
+abbrev pub inside : {A : Type 0} → Part → Reader A → Reader A
+inside part read p = and_then (read part) (λ x left. and_then (ended left) (λ _ _. done x p))
+
+-- a length in n bytes, and what fills so many bytes
+abbrev pub vector_at : {A : Type 0} → ℕ → Reader A → Reader A
+vector_at n read = do
+  part ← part_at n
+  inside part read
+
+-- at most n entries, up to the end of the part
+unfoldable pub entries_at : {A : Type 0} → Reader A → ℕ → Reader (List A)
+entries_at read zero p = Ok ([], p)
+entries_at read (suc n) p = if length p.bytes == 0 then Ok ([], p) else and_then (read p) (λ x. entries_at read n >>= λ xs. done (x ∷ xs))
+
+-- the entries up to the end of the part, each of which takes a byte at least
+abbrev pub list_at : {A : Type 0} → Reader A → Reader (List A)
+list_at read p = entries_at read (length p.bytes) p
+
+-- A call answered what this reading gives, and left what it leaves.
+abbrev pub Reads : {A : Type 0} → Result A Bad → Part → Result (A × Part) Bad → Type 0
+Reads (Ok x) left read = read ≡ Ok (x, left)
+Reads (Err bad) left read = read ≡ Err bad
+
+-- the same, unless memory ran out
+abbrev pub Decodes : {A : Type 0} → Result A DecodeFault → Part → Result (A × Part) Bad → Type 0
+Decodes (Ok x) left read = read ≡ Ok (x, left)
+Decodes (Err (faults.Bad bad)) left read = read ≡ Err bad
+Decodes (Err faults.NoMemory) left read = Unit {0}

@@ -1,0 +1,67 @@
+//! Why bytes are refused.
+
+ghost use Rattle.std.specs.Prelude.{◌≡◌};
+ghost use Rattle.wire_core.specs.declared.bad.DecodeFault.TheVariants as faults;
+ghost use Rattle.wire_core.specs.Part.{Part};
+ghost use Rattle.wire_core.specs.Reading.{Reads, allowed};
+
+use reload_base::NoMemory;
+
+/// What is wrong with the first field that can't be read.
+#[derive(Clone, Copy, Debug, PartialEq, Eq)]
+pub enum Reason {
+    /// The enclosing part ends before the field does. The place is that part's end.
+    Short,
+    /// A length says more than is left in its part. The place is the length's first byte.
+    LengthPast,
+    /// A field has a value that its layout doesn't allow. The place is the field's first byte.
+    BadValue,
+    /// Bytes are left in a part whose content is complete. The place is the first such byte.
+    Trailing,
+    /// A length passes a limit. The place is the length's first byte.
+    TooLarge,
+}
+
+/// The first fault of some bytes in the order of their layout.
+#[derive(Clone, Copy, Debug, PartialEq, Eq)]
+pub struct Bad {
+    /// Counted in bytes from the front of the whole input.
+    pub place: u64,
+    pub reason: Reason,
+}
+
+/// Why there is no value.
+#[derive(Clone, Copy, Debug, PartialEq, Eq)]
+pub enum DecodeFault {
+    /// The bytes spell none.
+    Bad(Bad),
+    /// There was no memory for it.
+    NoMemory,
+}
+
+impl From<Bad> for DecodeFault {
+    ghost from_gives = { λ bad fault. fault ≡ faults.Bad bad };
+
+    fn from(bad: Bad) -> DecodeFault {
+        DecodeFault::Bad(bad)
+    }
+}
+
+impl From<NoMemory> for DecodeFault {
+    ghost from_gives = { λ _ fault. fault ≡ faults.NoMemory };
+
+    fn from(_error: NoMemory) -> DecodeFault {
+        DecodeFault::NoMemory
+    }
+}
+
+/// A test as a step of reading: a fault at a place unless it holds.
+pub fn allowed(test: bool, place: u64, reason: Reason) -> Result<(), Bad>
+    ensures { (p : Part) → Reads result p (allowed test place reason p) }
+{
+    if test {
+        Ok(())
+    } else {
+        Err(Bad { place, reason })
+    }
+}
