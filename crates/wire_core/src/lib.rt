@@ -3,6 +3,8 @@
 
 mod bad;
 mod cursor;
+mod put;
 
 pub use bad::{Bad, DecodeFault, Reason, allowed};
 pub use cursor::Cursor;
+pub use put::{put_boolean, put_bytes, put_u8, put_u16, put_u24, put_u32, put_u64, put_u128};
