@@ -3,8 +3,12 @@
 
 mod bad;
 mod cursor;
+mod layout;
 mod put;
 
 pub use bad::{Bad, DecodeFault, Reason, allowed};
 pub use cursor::Cursor;
-pub use put::{put_boolean, put_bytes, put_u8, put_u16, put_u24, put_u32, put_u64, put_u128};
+pub use layout::{
+    Layout, list_fits, list_len, put_list, put_vector, take_bytes, take_list, take_vector,
+};
+pub use put::{put_boolean, put_bytes, put_length, put_u8, put_u16, put_u24, put_u32, put_u64, put_u128};

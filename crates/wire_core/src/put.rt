@@ -79,8 +79,8 @@ pub fn put_boolean(out: &mut Bytes, v: bool) -> Result<(), NoMemory>
     put_u8(out, if v { 1 } else { 0 })
 }
 
-/// Adds the length of a vector, which stands in `width` bytes.
-fn put_length(out: &mut Bytes, width: u8, len: usize) -> Result<(), NoMemory>
+/// Adds the length of a vector, which stands in `width` bytes. After `NoMemory` the bytes are as before.
+pub fn put_length(out: &mut Bytes, width: u8, len: u64) -> Result<(), NoMemory>
     requires low { 1 ≤ width }
     requires high { width ≤ 4 }
     requires fits { len < 256 ^ width }
@@ -102,6 +102,6 @@ pub fn put_bytes(out: &mut Bytes, width: u8, bytes: &[u8]) -> Result<(), NoMemor
     requires fits { length bytes.now < 256 ^ width }
     ensures { OnOk result (out.new ≡ out.old ++ vector width bytes.now) }
 {
-    put_length(out, width, bytes.len())?;
+    put_length(out, width, bytes.len() as u64)?;
     out.extend(bytes)
 }
