@@ -36,11 +36,11 @@ abbrev pub refused : {A : Type 0} → ℕ → Reason → Reader A
 refused place reason p = Err (record { place = place; reason = reason })
 
 -- a fault unless the test holds
-abbrev pub allowed : Bool → ℕ → Reason → Reader (Unit {0})
+unfoldable pub allowed : Bool → ℕ → Reason → Reader (Unit {0})
 allowed test place reason = if test then done tt else refused place reason
 
 -- the place of the next byte
-abbrev pub place_at : Reader ℕ
+unfoldable pub place_at : Reader ℕ
 place_at p = Ok (p.place, p)
 
 -- a fault unless the part is at its end
@@ -82,15 +82,37 @@ part_at n = do
   len ← number_at n
   stretch_at place len
 
+-- the same, where any other length is refused
+unfoldable pub sized_part_at : ℕ → ℕ → Reader Part
+sized_part_at n size = do
+  place ← place_at
+  len ← number_at n
+  allowed (len == size) place BadValue
+  stretch_at place len
+
 -- what fills a part of its own, and then reading goes on behind that part
 abbrev pub inside : {A : Type 0} → Part → Reader A → Reader A
 inside part read p = and_then (read part) (λ x left. and_then (ended left) (λ _ _. done x p))
 
 -- a length in n bytes, and what fills so many bytes
-abbrev pub vector_at : {A : Type 0} → ℕ → Reader A → Reader A
+unfoldable pub vector_at : {A : Type 0} → ℕ → Reader A → Reader A
 vector_at n read = do
   part ← part_at n
   inside part read
+
+-- the same, where any other length is refused
+unfoldable pub sized_at : {A : Type 0} → ℕ → ℕ → Reader A → Reader A
+sized_at n size read = do
+  part ← sized_part_at n size
+  inside part read
+
+-- an id behind its length: the byte 16, and 16 bytes
+unfoldable pub id_at : Reader ℕ
+id_at = do
+  place ← place_at
+  len ← number_at 1
+  allowed (len == 16) place BadValue
+  number_at 16
 
 -- at most n entries, up to the end of the part
 unfoldable pub entries_at : {A : Type 0} → Reader A → ℕ → Reader (List A)
@@ -98,7 +120,7 @@ entries_at read zero p = Ok ([], p)
 entries_at read (suc n) p = if length p.bytes == 0 then Ok ([], p) else and_then (read p) (λ x. entries_at read n >>= λ xs. done (x ∷ xs))
 
 -- the entries up to the end of the part, each of which takes a byte at least
-abbrev pub list_at : {A : Type 0} → Reader A → Reader (List A)
+unfoldable pub list_at : {A : Type 0} → Reader A → Reader (List A)
 list_at read p = entries_at read (length p.bytes) p
 
 -- A call answered what this reading gives, and left what it leaves.

@@ -56,6 +56,7 @@ impl From<NoMemory> for DecodeFault {
 }
 
 /// A test as a step of reading: a fault at a place unless it holds.
+#[tactic(auto, unfolding(crate::specs::Reading::allowed))]
 pub fn allowed(test: bool, place: u64, reason: Reason) -> Result<(), Bad>
     ensures { (p : Part) → Reads result p (allowed test place reason p) }
 {

@@ -2,7 +2,7 @@
 
 ghost use Rattle.std.specs.Prelude.{◌≡◌, ◌+◌, ◌^◌, ◌<◌, ◌≤◌, ◌==◌, [], length, MatchResult, IfOk, Ok, Err};
 ghost use Rattle.wire_core.specs.Part.{end_of};
-ghost use Rattle.wire_core.specs.Reading.{Reads, ended, bytes_at, number_at, boolean_at, stretch_at, part_at};
+ghost use Rattle.wire_core.specs.Reading.{Reads, place_at, ended, bytes_at, number_at, boolean_at, stretch_at, part_at, sized_part_at, id_at};
 
 use crate::bad::{Bad, Reason, allowed};
 use byteorder::{BigEndian, ByteOrder};
@@ -37,8 +37,10 @@ impl<'a> Cursor<'a> {
     }
 
     /// The place of the next byte.
+    #[tactic(auto, unfolding(crate::specs::Reading::place_at))]
     pub fn place(&self) -> u64
-        ensures { result ≡ self.now.place }
+        ensures value { result ≡ self.now.place }
+        ensures read { place_at self.now ≡ Ok (result, self.now) }
     {
         self.place
     }
@@ -76,6 +78,7 @@ impl<'a> Cursor<'a> {
     }
 
     /// Refuses bytes that are left.
+    #[tactic(auto, unfolding(crate::specs::Reading::allowed))]
     pub fn finish(&self) -> Result<(), Bad>
         ensures { Reads result self.now (ended self.now) }
     {
@@ -211,5 +214,29 @@ impl<'a> Cursor<'a> {
         let place = self.place();
         let len = self.take_length(width)?;
         self.take_stretch(place, len)
+    }
+
+    /// The same, where any length other than `size` is refused as a bad value.
+    #[tactic(auto, unfolding(crate::specs::Reading::sized_part_at))]
+    pub fn take_sized_part(&mut self, width: u8, size: u32) -> Result<Cursor<'a>, Bad>
+        requires low { 1 ≤ width }
+        requires high { width ≤ 4 }
+        ensures { Reads result self.new (sized_part_at width size self.old) }
+    {
+        let place = self.place();
+        let len = self.take_length(width)?;
+        allowed(len == size, place, Reason::BadValue)?;
+        self.take_stretch(place, len)
+    }
+
+    /// An id of 128 bits behind its length: the byte 16, any other of which is a bad value, and 16 bytes.
+    #[tactic(auto, unfolding(crate::specs::Reading::id_at))]
+    pub fn take_id(&mut self) -> Result<u128, Bad>
+        ensures { Reads result self.new (id_at self.old) }
+    {
+        let place = self.place();
+        let len = self.take_u8()?;
+        allowed(len == 16, place, Reason::BadValue)?;
+        self.take_u128()
     }
 }

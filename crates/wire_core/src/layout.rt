@@ -43,6 +43,7 @@ pub trait Layout: Sized + Drop {
 }
 
 /// Takes the structures that a part is full of. Each has a byte at least, so there are no more of them than bytes.
+#[tactic(auto, unfolding(crate::specs::Reading::list_at))]
 pub fn take_list<T: Layout>(alloc: Global, from: &mut Cursor<'_>) -> Result<List<T>, DecodeFault>
     ensures { Decodes result from.new (list_at T.reading from.old) }
 {
@@ -57,6 +58,7 @@ pub fn take_list<T: Layout>(alloc: Global, from: &mut Cursor<'_>) -> Result<List
 }
 
 /// Takes a vector of structures, whose length stands in `width` bytes.
+#[tactic(auto, unfolding(crate::specs::Reading::vector_at))]
 pub fn take_vector<T: Layout>(
     alloc: Global,
     from: &mut Cursor<'_>,
@@ -73,6 +75,7 @@ pub fn take_vector<T: Layout>(
 }
 
 /// Takes a vector of bytes, whose length stands in `width` bytes.
+#[tactic(auto, unfolding(crate::specs::Reading::vector_at, crate::specs::Reading::allowed))]
 pub fn take_bytes(alloc: Global, from: &mut Cursor<'_>, width: u8) -> Result<Bytes, DecodeFault>
     requires low { 1 ≤ width }
     requires high { width ≤ 4 }

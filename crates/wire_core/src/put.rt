@@ -1,7 +1,7 @@
 //! Writing numbers at the end of bytes, the highest byte first.
 
 ghost use Rattle.std.specs.Prelude.{◌≡◌, ◌^◌, ◌<◌, ◌≤◌, ◌++◌, length, OnOk, OnErr};
-ghost use Rattle.wire_core.specs.Spelling.{number, boolean, vector};
+ghost use Rattle.wire_core.specs.Spelling.{number, boolean, vector, id};
 
 use byteorder::{BigEndian, ByteOrder};
 use reload_base::{Bytes, NoMemory};
@@ -104,4 +104,12 @@ pub fn put_bytes(out: &mut Bytes, width: u8, bytes: &[u8]) -> Result<(), NoMemor
 {
     put_length(out, width, bytes.len() as u64)?;
     out.extend(bytes)
+}
+
+/// Adds an id of 128 bits behind its length: the byte 16, and 16 bytes. After `NoMemory` the bytes may have its front.
+pub fn put_id(out: &mut Bytes, v: u128) -> Result<(), NoMemory>
+    ensures { OnOk result (out.new ≡ out.old ++ id v) }
+{
+    put_u8(out, 16)?;
+    put_u128(out, v)
 }

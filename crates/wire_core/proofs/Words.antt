@@ -1,0 +1,153 @@
+-- The words of the wire, each in both directions.
+use Rattle.std.proofs.Common.{◌≡◌, ℕ, zero, suc, ◌+◌, ◌^◌, ◌<◌, ◌≤◌, Bool, true, false, cond, eqb, ltb, List, [], ◌∷◌, ◌++◌, length, take, drop, Result, Ok, Err, refl, sym, ap, subst, ◌∙◌, length-append, lit<, eq-eqb, arith}
+use Rattle.std.proofs.lemmas.Bool.{ltb-false, ltb-true, le-ltb, eqb-true}
+use Rattle.std.proofs.lemmas.List.{append-nil, length-take, take_at, drop_at, take-append-drop, nil_from_length}
+use Rattle.byteorder.specs.Endian.{big_number}
+use Rattle.wire_core.specs.declared.bad.Bad.{Bad}
+use Rattle.wire_core.specs.declared.bad.Reason.{Reason}
+use Rattle.wire_core.specs.declared.bad.Reason.TheVariants.{BadValue, Trailing}
+use Rattle.wire_core.specs.Part.{Part, behind}
+use Rattle.wire_core.specs.Spelling.{number, boolean, vector, id}
+use Rattle.wire_core.specs.Reading.{Reader, and_then, ◌>>=◌, done, refused, allowed, place_at, ended, rest_at, bytes_at, number_at, boolean_at, stretch_at, part_at, sized_part_at, inside, vector_at, sized_at, id_at}
+use Rattle.wire_core.proofs.Bytes.{IsBytes, IsBytes-take, length-number, IsBytes-number, number-big_number, big_number-number, big_number-lt}
+use Rattle.wire_core.proofs.Laws.{part, Follows, Anything, Nothing, Always, IsLayout, then_ok, ok_is, seq, done_laid, laid_as, fits_as, read_as, spelled_as, at_end, placed, tested, made}
+
+-- a test that was passed
+pub guard_ok : {A : Type 0} (b : Bool) (bad : Bad) (x y : A) → cond b (Err bad) (Ok x) ≡ Ok y → (b ≡ false) × (x ≡ y)
+guard_ok true bad x y e = absurd cc
+guard_ok false bad x y e = (refl, cc)
+
+-- the next n bytes
+abbrev pub AreBytes : ℕ → List ℕ → Type 0
+AreBytes n bytes = (length bytes ≡ n) × IsBytes bytes
+
+front_follows : (n : ℕ) (p : Part) → n ≤ length p.bytes → Follows p (take n p.bytes) (behind n p)
+front_follows n p long = record { bytes = sym (take-append-drop n p.bytes); place = let len : length (take n p.bytes) ≡ n = omega (arith, length-take n p.bytes) in rw len refl }
+
+pub bytes_laid : (n : ℕ) → IsLayout Anything Always (AreBytes n) (λ bytes. bytes) (bytes_at n)
+unfolding bytes_at
+bytes_laid n = record {
+  takes = λ p y q bytes e.
+      let g = guard_ok (ltb (length p.bytes) n) _ (take n p.bytes, behind n p) (y, q) e in
+      let long : n ≤ length p.bytes = ltb-false _ _ g.0 in
+      subst (λ (r : List ℕ × Part). Unit {0} × AreBytes n r.0 × Follows p r.0 r.1) g.1
+      (tt, (omega (arith, length-take n p.bytes), IsBytes-take n p.bytes bytes), front_follows n p long);
+  again = λ place y rest known fits after.
+      let long : ltb (length (y ++ rest)) n ≡ false = le-ltb _ _ (omega (arith, length-append y rest, fits.0)) in
+      rw (long, take_at y rest n fits.0, drop_at y rest n fits.0, fits.0) refl;
+}
+
+pub number_laid : (n : ℕ) → IsLayout Anything Always (λ x. x < 256 ^ n) (number n) (number_at n)
+unfolding number_at
+number_laid n =
+    made (big_number n) (bytes_laid n) (λ bytes fits. (tt, big_number-lt n bytes fits.1, sym (number-big_number n bytes fits.0 fits.1)))
+    (λ x known lt. (number n x, (length-number n x, IsBytes-number n x), big_number-number n x lt))
+
+-- all that is left
+pub rest_laid : IsLayout Nothing Always IsBytes (λ bytes. bytes) rest_at
+rest_laid = record {
+  takes = λ p y q bytes e.
+      subst (λ (r : List ℕ × Part). Unit {0} × IsBytes r.0 × Follows p r.0 r.1) (ok_is (p.bytes, part (p.place + length p.bytes) []) (y, q) e)
+      (tt, bytes, record { bytes = sym (append-nil p.bytes); place = refl });
+  again = λ place y rest known fits after. rw (after, append-nil) refl;
+}
+
+-- ---- parts
+
+-- a part at its end
+ended_ok : {A : Type 0} (p : Part) (next : Unit {0} → Reader A) (y : A × Part) → and_then (ended p) next ≡ Ok y → (p.bytes ≡ []) × (next tt p ≡ Ok y)
+unfolding allowed
+ended_ok p next y e =
+    elim (eqb (length p.bytes) 0) as (λ b. eqb (length p.bytes) 0 ≡ b → and_then (cond b (done tt) (refused p.place Trailing) p) next ≡ Ok y → (p.bytes ≡ []) × (next tt p ≡ Ok y)) [
+      | true ↦ λ empty f. (nil_from_length p.bytes (eqb-true _ _ empty), f)
+      | false ↦ λ some f. absurd cc
+    ] refl e
+
+-- what fills the next len bytes
+pub filled : {A : Type 0} {Fits : A → Type 0} {s : A → List ℕ} {read : Reader A} → (place len : ℕ) → IsLayout Nothing Always Fits s read
+    → IsLayout Anything Always (λ x. Fits x × (length (s x) ≡ len)) s (λ p. and_then (stretch_at place len p) (λ part. inside part read))
+unfolding stretch_at allowed
+filled {A} {Fits} {s} {read} place len law = record {
+  takes = λ p y q bytes e.
+      let a = then_ok (stretch_at place len p) (λ part. inside part read) (y, q) e in
+      let g = guard_ok (ltb (length p.bytes) len) _ (part p.place (take len p.bytes), behind len p) (a.0, a.1) a.2 in
+      let long : len ≤ length p.bytes = ltb-false _ _ g.0 in
+      let front : part p.place (take len p.bytes) ≡ a.0 = ap (λ (r : Part × Part). r.0) g.1 in
+      let back : behind len p ≡ a.1 = ap (λ (r : Part × Part). r.1) g.1 in
+      let b = then_ok (read a.0) (λ x left. and_then (ended left) (λ _ _. done x a.1)) (y, q) a.3 in
+      let c = ended_ok b.1 (λ _ _. done b.0 a.1) (y, q) b.3 in
+      let inner = subst (λ (r : Part). IsBytes r.bytes) front (IsBytes-take len p.bytes bytes) in
+      let t = law.takes a.0 b.0 b.1 inner b.2 in
+      let text : take len p.bytes ≡ s b.0 = ap (λ (r : Part). r.bytes) front ∙ t.2.bytes ∙ ap (λ (r : List ℕ). s b.0 ++ r) c.0 ∙ append-nil (s b.0) in
+      let measured : length (s b.0) ≡ len = omega (arith, ap length text, length-take len p.bytes) in
+      let follows : Follows p (s b.0) a.1 = subst (Follows p (s b.0)) back (subst (λ (x : List ℕ). Follows p x (behind len p)) text (front_follows len p long)) in
+      subst (λ (r : A × Part). Unit {0} × (Fits r.0 × (length (s r.0) ≡ len)) × Follows p (s r.0) r.1) (ok_is (b.0, a.1) (y, q) c.1) (tt, (t.1, measured), follows);
+  again = λ at y rest known fits after.
+      let long : ltb (length (s y ++ rest)) len ≡ false = le-ltb _ _ (omega (arith, length-append (s y) rest, fits.1)) in
+      let one : read (part at (s y)) ≡ Ok (y, part (at + length (s y)) []) = subst (λ (bytes : List ℕ). read (part at bytes) ≡ Ok (y, part (at + length (s y)) [])) (append-nil (s y)) (law.again at y [] tt fits.0 refl) in
+      rw (long, take_at (s y) rest len fits.1, drop_at (s y) rest len fits.1, one, fits.1) refl;
+}
+
+-- steps in steps are steps in a row
+regrouped : {A B C : Type 0} (r : Result (A × Part) Bad) (f : A → Reader B) (g : B → Reader C) → and_then r (λ x p. and_then (f x p) g) ≡ and_then (and_then r f) g
+regrouped (Ok x) f g = refl
+regrouped (Err bad) f g = refl
+
+regrouped_2 : {A B C D : Type 0} (r : Result (A × Part) Bad) (f : A → Reader B) (g : A → B → Reader C) (h : C → Reader D)
+    → and_then r (λ x p. and_then (f x p) (λ y q. and_then (g x y q) h)) ≡ and_then (and_then r (λ x p. and_then (f x p) (g x))) h
+regrouped_2 (Ok x) f g h = regrouped (f x.0 x.1) (g x.0) h
+regrouped_2 (Err bad) f g h = refl
+
+regrouped_3 : {A B C D E : Type 0} (r : Result (A × Part) Bad) (f : A → Reader B) (g : A → B → Reader C) (h : A → B → Reader D) (k : D → Reader E)
+    → and_then r (λ x p. and_then (f x p) (λ y q. and_then (g x y q) (λ _ m. and_then (h x y m) k))) ≡ and_then (and_then r (λ x p. and_then (f x p) (λ y q. and_then (g x y q) (λ _. h x y)))) k
+regrouped_3 (Ok x) f g h k = regrouped_2 (f x.0 x.1) (g x.0) (λ y _. h x.0 y) k
+regrouped_3 (Err bad) f g h k = refl
+
+-- a vector of what fills it
+pub vector_laid : {A : Type 0} {Fits : A → Type 0} {s : A → List ℕ} {read : Reader A} → (n : ℕ) → IsLayout Nothing Always Fits s read
+    → IsLayout Anything Always (λ x. (length (s x) < 256 ^ n) × Fits x) (λ x. vector n (s x)) (vector_at n read)
+unfolding vector_at part_at
+vector_laid {A} {Fits} {s} {read} n law =
+    let in_row = placed (λ place. seq {Known = Always} (λ x. length (s x)) (number_laid n) (λ len. laid_as _ Fits (filled place len law) (λ y k f. ((f.1, tt), f.0)) (λ y k f. (tt, (f, k.0))))) in
+    read_as (vector_at n read) in_row (λ p. regrouped_2 (place_at p) (λ _. number_at n) stretch_at (λ part. inside part read))
+
+-- a part of one size, behind its length
+pub sized_laid : {A : Type 0} {Fits : A → Type 0} {s : A → List ℕ} {read : Reader A} → (n size : ℕ) → size < 256 ^ n → ((x : A) → Fits x → length (s x) ≡ size)
+    → IsLayout Nothing Always Fits s read → IsLayout Anything Always Fits (λ x. number n size ++ s x) (sized_at n size read)
+unfolding sized_at sized_part_at
+sized_laid {A} {Fits} {s} {read} n size small len_is law =
+    let in_row = placed (λ place. seq {Known = Always} (λ x. length (s x)) (number_laid n) (λ len.
+        tested (eqb len size) place BadValue (λ y k f. let e : len ≡ size = sym k.0 ∙ len_is y f in eq-eqb len size e) (λ same. laid_as _ Fits (filled place len law) (λ y k f. ((f.1, tt), f.0)) (λ y k f. (tt, (f, k.0)))))) in
+    let measured = spelled_as (λ x. number n size ++ s x) in_row (λ y k f. ap (λ (m : ℕ). number n m ++ s y) (len_is y f.1)) in
+    let fitting = fits_as Fits measured (λ y k f. f.1) (λ y k f. (let e : length (s y) ≡ size = len_is y f in omega (arith, e, small), f)) in
+    read_as (sized_at n size read) fitting (λ p. regrouped_3 (place_at p) (λ _. number_at n) (λ place len. allowed (eqb len size) place BadValue) stretch_at (λ part. inside part read))
+
+-- a Boolean
+flag_lt : (b : Bool) → ltb (cond b 1 0) 2 ≡ true
+flag_lt true = refl
+flag_lt false = refl
+
+flag_is : (b : Bool) → b ≡ eqb (cond b 1 0) 1
+flag_is true = refl
+flag_is false = refl
+
+flag_back : (n : ℕ) → ltb n 2 ≡ true → cond (eqb n 1) 1 0 ≡ n
+flag_back zero lt = refl
+flag_back (suc zero) lt = refl
+flag_back (suc (suc n)) lt = absurd (omega (arith, ltb-true (suc (suc n)) 2 lt))
+
+pub boolean_laid : IsLayout Anything Always Always boolean boolean_at
+unfolding boolean_at
+boolean_laid =
+    let law = placed (λ place. seq {Known = Always} (λ b. cond b 1 0) (number_laid 1) (λ n.
+        tested (ltb n 2) place BadValue (λ b k f. subst (λ (m : ℕ). ltb m 2 ≡ true) k.0 (flag_lt b))
+        (λ lt. done_laid (eqb n 1) (flag_back n lt, tt) (λ b k. flag_is b ∙ ap (λ (m : ℕ). eqb m 1) k.0)))) in
+    spelled_as boolean (fits_as Always law (λ b k f. tt) (λ b k f. (let lt : cond b 1 0 < 2 = ltb-true _ _ (flag_lt b) in omega (arith, lt), tt))) (λ b k f. append-nil (boolean b))
+
+-- an id behind its length
+pub id_laid : IsLayout Anything Always (λ n. n < 256 ^ 16) id id_at
+unfolding id_at
+id_laid =
+    let law = placed (λ place. seq {Known = Always} {t = number 16} (λ n. 16) (number_laid 1) (λ len.
+        tested (eqb len 16) place BadValue (λ n k f. eq-eqb len 16 (sym k.0)) (λ same. laid_as _ _ (number_laid 16) (λ n k f. ((sym (eqb-true len 16 same), tt), f)) (λ n k f. (tt, f))))) in
+    fits_as _ law (λ n k f. f.1) (λ n k f. (lit< tt, f))
