@@ -156,6 +156,16 @@ tested false place reason passes law = record {
   again = λ at y rest known fits after. let t = passes y known fits in absurd cc;
 }
 
+-- a test that ends a layout
+pub tested_last : {After : List ℕ → Type 0} {Known Fits : Unit {0} → Type 0} → (test : Bool) (place : ℕ) (reason : Reason)
+    → (Known tt → Fits tt → test ≡ true) → (test ≡ true → Known tt × Fits tt) → IsLayout After Known Fits (λ _. []) (allowed test place reason)
+unfolding allowed
+tested_last true place reason passes back = laid_as _ _ (done_laid {Known = Always} tt tt (λ z k. refl)) (λ y k f. back refl) (λ y k f. (tt, tt))
+tested_last false place reason passes back = record {
+  takes = λ p y q bytes e. absurd cc;
+  again = λ at y rest known fits after. let t = passes known fits in absurd cc;
+}
+
 -- a value that is made of what was read
 pub made : {A Y : Type 0} {After : List ℕ → Type 0} {Known Fits : Y → Type 0} {FitsA : A → Type 0} {s : A → List ℕ} {spell : Y → List ℕ} {read : Reader A} → (make : A → Y)
     → IsLayout After Always FitsA s read → ((x : A) → FitsA x → Known (make x) × Fits (make x) × (s x ≡ spell (make x)))

@@ -1,16 +1,16 @@
 -- The words of the wire, each in both directions.
-use Rattle.std.proofs.Common.{◌≡◌, ℕ, zero, suc, ◌+◌, ◌^◌, ◌<◌, ◌≤◌, Bool, true, false, cond, eqb, ltb, List, [], ◌∷◌, ◌++◌, length, take, drop, Result, Ok, Err, refl, sym, ap, subst, ◌∙◌, length-append, lit<, eq-eqb, arith}
-use Rattle.std.proofs.lemmas.Bool.{ltb-false, ltb-true, le-ltb, eqb-true}
+use Rattle.std.proofs.Common.{◌≡◌, ℕ, zero, suc, ◌+◌, ◌^◌, ◌<◌, ◌≤◌, Bool, true, false, cond, eqb, ltb, leb, List, [], ◌∷◌, ◌++◌, length, take, drop, Result, Ok, Err, refl, sym, ap, subst, ◌∙◌, length-append, lit<, eq-eqb, arith}
+use Rattle.std.proofs.lemmas.Bool.{ltb-false, ltb-true, le-ltb, leb-true, le-leb, eqb-true}
 use Rattle.std.proofs.lemmas.List.{append-nil, length-take, take_at, drop_at, take-append-drop, nil_from_length}
 use Rattle.byteorder.specs.Endian.{big_number}
 use Rattle.wire_core.specs.declared.bad.Bad.{Bad}
 use Rattle.wire_core.specs.declared.bad.Reason.{Reason}
-use Rattle.wire_core.specs.declared.bad.Reason.TheVariants.{BadValue, Trailing}
+use Rattle.wire_core.specs.declared.bad.Reason.TheVariants.{BadValue, Trailing, TooLarge}
 use Rattle.wire_core.specs.Part.{Part, behind}
 use Rattle.wire_core.specs.Spelling.{number, boolean, vector, id}
-use Rattle.wire_core.specs.Reading.{Reader, and_then, ◌>>=◌, done, refused, allowed, place_at, ended, rest_at, bytes_at, number_at, boolean_at, stretch_at, part_at, sized_part_at, inside, vector_at, sized_at, id_at}
+use Rattle.wire_core.specs.Reading.{Reader, and_then, ◌>>=◌, done, refused, allowed, place_at, ended, rest_at, bytes_at, number_at, boolean_at, exact_at, limited_at, stretch_at, part_at, sized_part_at, filled_at, inside, vector_at, sized_at, id_at}
 use Rattle.wire_core.proofs.Bytes.{IsBytes, IsBytes-take, length-number, IsBytes-number, number-big_number, big_number-number, big_number-lt}
-use Rattle.wire_core.proofs.Laws.{part, Follows, Anything, Nothing, Always, IsLayout, then_ok, ok_is, seq, done_laid, laid_as, fits_as, read_as, spelled_as, at_end, placed, tested, made}
+use Rattle.wire_core.proofs.Laws.{part, Follows, Anything, Nothing, Always, IsLayout, then_ok, ok_is, seq, done_laid, laid_as, fits_as, read_as, spelled_as, at_end, placed, tested, tested_last, made}
 
 -- a test that was passed
 pub guard_ok : {A : Type 0} (b : Bool) (bad : Bad) (x y : A) → cond b (Err bad) (Ok x) ≡ Ok y → (b ≡ false) × (x ≡ y)
@@ -64,7 +64,7 @@ ended_ok p next y e =
     ] refl e
 
 -- what fills the next len bytes
-pub filled : {A : Type 0} {Fits : A → Type 0} {s : A → List ℕ} {read : Reader A} → (place len : ℕ) → IsLayout Nothing Always Fits s read
+filled : {A : Type 0} {Fits : A → Type 0} {s : A → List ℕ} {read : Reader A} → (place len : ℕ) → IsLayout Nothing Always Fits s read
     → IsLayout Anything Always (λ x. Fits x × (length (s x) ≡ len)) s (λ p. and_then (stretch_at place len p) (λ part. inside part read))
 unfolding stretch_at allowed
 filled {A} {Fits} {s} {read} place len law = record {
@@ -87,6 +87,11 @@ filled {A} {Fits} {s} {read} place len law = record {
       let one : read (part at (s y)) ≡ Ok (y, part (at + length (s y)) []) = subst (λ (bytes : List ℕ). read (part at bytes) ≡ Ok (y, part (at + length (s y)) [])) (append-nil (s y)) (law.again at y [] tt fits.0 refl) in
       rw (long, take_at (s y) rest len fits.1, drop_at (s y) rest len fits.1, one, fits.1) refl;
 }
+
+pub filled_laid : {A : Type 0} {Fits : A → Type 0} {s : A → List ℕ} {read : Reader A} → (place len : ℕ) → IsLayout Nothing Always Fits s read
+    → IsLayout Anything Always (λ x. Fits x × (length (s x) ≡ len)) s (filled_at place len read)
+unfolding filled_at
+filled_laid place len law = filled place len law
 
 -- steps in steps are steps in a row
 regrouped : {A B C : Type 0} (r : Result (A × Part) Bad) (f : A → Reader B) (g : B → Reader C) → and_then r (λ x p. and_then (f x p) g) ≡ and_then (and_then r f) g
@@ -151,3 +156,19 @@ id_laid =
     let law = placed (λ place. seq {Known = Always} {t = number 16} (λ n. 16) (number_laid 1) (λ len.
         tested (eqb len 16) place BadValue (λ n k f. eq-eqb len 16 (sym k.0)) (λ same. laid_as _ _ (number_laid 16) (λ n k f. ((sym (eqb-true len 16 same), tt), f)) (λ n k f. (tt, f))))) in
     fits_as _ law (λ n k f. f.1) (λ n k f. (lit< tt, f))
+
+-- one number and no other
+pub exact_laid : (n value : ℕ) → value < 256 ^ n → IsLayout Anything Always Always (λ _. number n value) (exact_at n value)
+unfolding exact_at
+exact_laid n value lt =
+    let law = placed (λ place. seq {Known = Always} {Fits = Always} (λ _. value) (number_laid n) (λ x. tested_last (eqb x value) place BadValue (λ k f. eq-eqb x value (sym k.0)) (λ same. ((sym (eqb-true x value same), tt), tt)))) in
+    spelled_as _ (fits_as Always law (λ y k f. tt) (λ y k f. (lt, tt))) (λ y k f. append-nil (number n value))
+
+-- a length within a limit
+pub limited_laid : (n limit : ℕ) → IsLayout Anything Always (λ x. (x < 256 ^ n) × (x ≤ limit)) (number n) (limited_at n limit)
+unfolding limited_at
+limited_laid n limit =
+    let law = placed (λ place. seq {Known = Always} {Fits = λ x. x ≤ limit} (λ x. x) (number_laid n) (λ x.
+        tested (leb x limit) place TooLarge (λ y k f. let le : x ≤ limit = omega (arith, k.0, f) in le-leb x limit le)
+        (λ within. fits_as _ (done_laid x (refl, tt) (λ z k. k.0)) (λ y k f. let le = leb-true x limit within in omega (arith, k.0, le)) (λ y k f. tt)))) in
+    spelled_as (number n) law (λ x k f. append-nil (number n x))

@@ -3,7 +3,7 @@ use Rattle.std.specs.Prelude.{◌≡◌, ℕ, zero, suc, ◌+◌, List, [], ◌�
 use Rattle.byteorder.specs.Endian.{big_number}
 use Rattle.wire_core.specs.declared.bad.Bad.{Bad}
 use Rattle.wire_core.specs.declared.bad.Reason.{Reason}
-use Rattle.wire_core.specs.declared.bad.Reason.TheVariants.{Short, LengthPast, BadValue, Trailing}
+use Rattle.wire_core.specs.declared.bad.Reason.TheVariants.{Short, LengthPast, BadValue, Trailing, TooLarge}
 use Rattle.wire_core.specs.declared.bad.DecodeFault.{DecodeFault}
 use Rattle.wire_core.specs.declared.bad.DecodeFault.TheVariants as faults
 use Rattle.wire_core.specs.Part.{Part, end_of, behind}
@@ -43,6 +43,10 @@ allowed test place reason = if test then done tt else refused place reason
 unfoldable pub place_at : Reader ℕ
 place_at p = Ok (p.place, p)
 
+-- the number of bytes that are left
+abbrev pub left_at : Reader ℕ
+left_at p = Ok (length p.bytes, p)
+
 -- a fault unless the part is at its end
 abbrev pub ended : Reader (Unit {0})
 ended p = allowed (length p.bytes == 0) p.place Trailing p
@@ -60,6 +64,21 @@ unfoldable pub number_at : ℕ → Reader ℕ
 number_at n = do
   front ← bytes_at n
   done (big_number n front)
+
+-- this number in n bytes, and no other
+unfoldable pub exact_at : ℕ → ℕ → Reader (Unit {0})
+exact_at n value = do
+  place ← place_at
+  x ← number_at n
+  allowed (x == value) place BadValue
+
+-- a length in n bytes that may not pass a limit
+unfoldable pub limited_at : ℕ → ℕ → Reader ℕ
+limited_at n limit = do
+  place ← place_at
+  x ← number_at n
+  allowed (nat_le x limit) place TooLarge
+  done x
 
 -- one byte, 0 or 1
 unfoldable pub boolean_at : Reader Bool
@@ -93,6 +112,12 @@ sized_part_at n size = do
 -- what fills a part of its own, and then reading goes on behind that part
 abbrev pub inside : {A : Type 0} → Part → Reader A → Reader A
 inside part read p = and_then (read part) (λ x left. and_then (ended left) (λ _ _. done x p))
+
+-- what fills the next len bytes, where their length stands at a place
+unfoldable pub filled_at : {A : Type 0} → ℕ → ℕ → Reader A → Reader A
+filled_at place len read = do
+  part ← stretch_at place len
+  inside part read
 
 -- a length in n bytes, and what fills so many bytes
 unfoldable pub vector_at : {A : Type 0} → ℕ → Reader A → Reader A
@@ -133,3 +158,9 @@ abbrev pub Decodes : {A : Type 0} → Result A DecodeFault → Part → Result (
 Decodes (Ok x) left read = read ≡ Ok (x, left)
 Decodes (Err (faults.Bad bad)) left read = read ≡ Err bad
 Decodes (Err faults.NoMemory) left read = Unit {0}
+
+-- A call that reads the whole input answered this, unless memory ran out.
+abbrev pub Gives : {A : Type 0} → Result A DecodeFault → Result A Bad → Type 0
+Gives (Ok x) read = read ≡ Ok x
+Gives (Err (faults.Bad bad)) read = read ≡ Err bad
+Gives (Err faults.NoMemory) read = Unit {0}

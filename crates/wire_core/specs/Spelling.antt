@@ -17,3 +17,8 @@ vector n content = number n (length content) ++ content
 -- an id behind its length: the byte 16, and 16 bytes
 abbrev pub id : ℕ → List ℕ
 id n = number 1 16 ++ number 16 n
+
+-- fields one after the other
+abbrev pub joined : List (List ℕ) → List ℕ
+joined [] = []
+joined (field ∷ fields) = field ++ joined fields

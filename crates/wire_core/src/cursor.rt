@@ -2,7 +2,7 @@
 
 ghost use Rattle.std.specs.Prelude.{◌≡◌, ◌+◌, ◌^◌, ◌<◌, ◌≤◌, ◌==◌, [], length, MatchResult, IfOk, Ok, Err};
 ghost use Rattle.wire_core.specs.Part.{end_of};
-ghost use Rattle.wire_core.specs.Reading.{Reads, place_at, ended, bytes_at, number_at, boolean_at, stretch_at, part_at, sized_part_at, id_at};
+ghost use Rattle.wire_core.specs.Reading.{Reads, place_at, ended, bytes_at, number_at, exact_at, limited_at, boolean_at, stretch_at, part_at, sized_part_at, id_at};
 
 use crate::bad::{Bad, Reason, allowed};
 use byteorder::{BigEndian, ByteOrder};
@@ -170,8 +170,8 @@ impl<'a> Cursor<'a> {
         Ok(byte == 1)
     }
 
-    /// A number of 1 to 4 bytes.
-    fn take_length(&mut self, width: u8) -> Result<u32, Bad>
+    /// A number of `width` bytes, which is 1 to 4.
+    pub fn take_number(&mut self, width: u8) -> Result<u32, Bad>
         requires low { 1 ≤ width }
         requires high { width ≤ 4 }
         ensures { Reads result self.new (number_at width self.old) }
@@ -182,6 +182,31 @@ impl<'a> Cursor<'a> {
             3 => self.take_u24(),
             _ => self.take_u32(),
         }
+    }
+
+    /// A number of `width` bytes, any other of which than `value` is a bad value.
+    #[tactic(auto, unfolding(crate::specs::Reading::exact_at))]
+    pub fn expect(&mut self, width: u8, value: u32) -> Result<(), Bad>
+        requires low { 1 ≤ width }
+        requires high { width ≤ 4 }
+        ensures { Reads result self.new (exact_at width value self.old) }
+    {
+        let place = self.place();
+        let number = self.take_number(width)?;
+        allowed(number == value, place, Reason::BadValue)
+    }
+
+    /// A length of `width` bytes, which is too large above `limit`.
+    #[tactic(auto, unfolding(crate::specs::Reading::limited_at))]
+    pub fn take_limited(&mut self, width: u8, limit: u32) -> Result<u32, Bad>
+        requires low { 1 ≤ width }
+        requires high { width ≤ 4 }
+        ensures { Reads result self.new (limited_at width limit self.old) }
+    {
+        let place = self.place();
+        let number = self.take_number(width)?;
+        allowed(number <= limit, place, Reason::TooLarge)?;
+        Ok(number)
     }
 
     /// The next `len` bytes as a cursor of their own. Their length stands at `place`, where it is refused if
@@ -212,7 +237,7 @@ impl<'a> Cursor<'a> {
         ensures { Reads result self.new (part_at width self.old) }
     {
         let place = self.place();
-        let len = self.take_length(width)?;
+        let len = self.take_number(width)?;
         self.take_stretch(place, len)
     }
 
@@ -224,7 +249,7 @@ impl<'a> Cursor<'a> {
         ensures { Reads result self.new (sized_part_at width size self.old) }
     {
         let place = self.place();
-        let len = self.take_length(width)?;
+        let len = self.take_number(width)?;
         allowed(len == size, place, Reason::BadValue)?;
         self.take_stretch(place, len)
     }

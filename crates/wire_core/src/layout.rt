@@ -5,7 +5,7 @@ ghost use Rattle.std.specs.List.{flat_map};
 ghost use Rattle.wire_core.specs.declared.bad.Bad.{Bad};
 ghost use Rattle.wire_core.specs.Part.{Part};
 ghost use Rattle.wire_core.specs.Spelling.{vector};
-ghost use Rattle.wire_core.specs.Reading.{Decodes, list_at, vector_at, rest_at};
+ghost use Rattle.wire_core.specs.Reading.{Decodes, list_at, filled_at, vector_at, rest_at};
 
 use crate::bad::DecodeFault;
 use crate::cursor::Cursor;
@@ -54,6 +54,23 @@ pub fn take_list<T: Layout>(alloc: Global, from: &mut Cursor<'_>) -> Result<List
         }
         list.push(T::take(alloc, from)?)?;
     }
+    Ok(list)
+}
+
+/// Takes the structures that the next `len` bytes are full of. Their length stands at `place`, where it is refused
+/// if fewer bytes are left.
+#[tactic(auto, unfolding(crate::specs::Reading::filled_at))]
+pub fn take_filled<T: Layout>(
+    alloc: Global,
+    from: &mut Cursor<'_>,
+    place: u64,
+    len: u32,
+) -> Result<List<T>, DecodeFault>
+    ensures { Decodes result from.new (filled_at place len (list_at T.reading) from.old) }
+{
+    let mut part = from.take_stretch(place, len)?;
+    let list = take_list(alloc, &mut part)?;
+    part.finish()?;
     Ok(list)
 }
 
