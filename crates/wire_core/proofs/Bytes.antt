@@ -1,7 +1,7 @@
 -- From the bytes of a number to the number, and back.
 use Rattle.std.proofs.Common.{◌≡◌, ℕ, zero, suc, ◌+◌, ◌*◌, ◌^◌, ◌<◌, ◌≤◌, List, [], ◌∷◌, ◌++◌, length, get_or, take, drop, refl, sym, ap, ◌∙◌, arith, inl, inr}
 use Rattle.std.proofs.lemmas.Bool.{cases_lt}
-use Rattle.std.proofs.lemmas.List.{append-nil, length-take, get_or-take, get_or-drop, get_or_past, get_or-append-add, take_all}
+use Rattle.std.proofs.lemmas.List.{append-nil, length-append, length-take, get_or-take, get_or-drop, get_or_past, get_or-append-add, take_all}
 use Rattle.std.proofs.lemmas.Nat.{same_from_place}
 use Rattle.std.specs.Int.{byte_at, bytes_high_first}
 use Rattle.byteorder.specs.Endian.{big_bytes, big_from, big_number}
@@ -77,3 +77,6 @@ unfolding number
 big_number-number n x lt =
     let back = big_number-reads_back n x [] lt in
     rw append-nil at back
+
+-- how long what is spelled is
+pub ruleset lengths = (length-number, length-append)

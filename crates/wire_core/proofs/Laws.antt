@@ -60,18 +60,18 @@ Follows-then p a m b q f g = record {
 -- ---- the law of sequence: a field, and then the rest of the layout
 
 pub seq : {A Y : Type 0} {After : List ℕ → Type 0} {Known Fits : Y → Type 0} {FitsA : A → Type 0} {s : A → List ℕ} {t : Y → List ℕ} {read : Reader A} {next : A → Reader Y}
-    → (field : Y → A) → IsLayout Anything Always FitsA s read → ((x : A) → IsLayout After (λ y. (field y ≡ x) × Known y) Fits t (next x))
+    → (field : Y → A) → IsLayout Anything Always FitsA s read → ((x : A) → FitsA x → IsLayout After (λ y. (field y ≡ x) × Known y) Fits t (next x))
     → IsLayout After Known (λ y. FitsA (field y) × Fits y) (λ y. s (field y) ++ t y) (λ p. and_then (read p) next)
 seq {A} {Y} {After} {Known} {Fits} {FitsA} {s} {t} {read} {next} field first others = record {
   takes = λ p y q bytes e.
       let a = then_ok (read p) next (y, q) e in
       let f = first.takes p a.0 a.1 bytes a.2 in
-      let o = (others a.0).takes a.1 y q (IsBytes-follows p (s a.0) a.1 bytes f.2) a.3 in
+      let o = (others a.0 f.1).takes a.1 y q (IsBytes-follows p (s a.0) a.1 bytes f.2) a.3 in
       let same = o.0.0 in
       (o.0.1, (subst FitsA (sym same) f.1, o.1), subst (λ (x : A). Follows p (s x ++ t y) q) (sym same) (Follows-then p (s a.0) a.1 (t y) q f.2 o.2));
   again = λ place y rest known fits after.
       let a = first.again place (field y) (t y ++ rest) tt fits.0 tt in
-      let o = (others (field y)).again (place + length (s (field y))) y rest (refl, known) fits.1 after in
+      let o = (others (field y) fits.0).again (place + length (s (field y))) y rest (refl, known) fits.1 after in
       let len : place + length (s (field y)) + length (t y) ≡ place + length (s (field y) ++ t y) = omega (arith, length-append (s (field y)) (t y)) in
       ap (λ (bytes : List ℕ). and_then (read (part place bytes)) next) (append_assoc (s (field y)) (t y) rest)
       ∙ ap (λ r. and_then r next) a ∙ o ∙ ap (λ (k : ℕ). Ok (y, part k rest)) len;

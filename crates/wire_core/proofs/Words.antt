@@ -113,7 +113,7 @@ pub vector_laid : {A : Type 0} {Fits : A → Type 0} {s : A → List ℕ} {read 
     → IsLayout Anything Always (λ x. (length (s x) < 256 ^ n) × Fits x) (λ x. vector n (s x)) (vector_at n read)
 unfolding vector_at part_at
 vector_laid {A} {Fits} {s} {read} n law =
-    let in_row = placed (λ place. seq {Known = Always} (λ x. length (s x)) (number_laid n) (λ len. laid_as _ Fits (filled place len law) (λ y k f. ((f.1, tt), f.0)) (λ y k f. (tt, (f, k.0))))) in
+    let in_row = placed (λ place. seq {Known = Always} (λ x. length (s x)) (number_laid n) (λ len lt. laid_as _ Fits (filled place len law) (λ y k f. ((f.1, tt), f.0)) (λ y k f. (tt, (f, k.0))))) in
     read_as (vector_at n read) in_row (λ p. regrouped_2 (place_at p) (λ _. number_at n) stretch_at (λ part. inside part read))
 
 -- a part of one size, behind its length
@@ -121,7 +121,7 @@ pub sized_laid : {A : Type 0} {Fits : A → Type 0} {s : A → List ℕ} {read :
     → IsLayout Nothing Always Fits s read → IsLayout Anything Always Fits (λ x. number n size ++ s x) (sized_at n size read)
 unfolding sized_at sized_part_at
 sized_laid {A} {Fits} {s} {read} n size small len_is law =
-    let in_row = placed (λ place. seq {Known = Always} (λ x. length (s x)) (number_laid n) (λ len.
+    let in_row = placed (λ place. seq {Known = Always} (λ x. length (s x)) (number_laid n) (λ len lt.
         tested (eqb len size) place BadValue (λ y k f. let e : len ≡ size = sym k.0 ∙ len_is y f in eq-eqb len size e) (λ same. laid_as _ Fits (filled place len law) (λ y k f. ((f.1, tt), f.0)) (λ y k f. (tt, (f, k.0)))))) in
     let measured = spelled_as (λ x. number n size ++ s x) in_row (λ y k f. ap (λ (m : ℕ). number n m ++ s y) (len_is y f.1)) in
     let fitting = fits_as Fits measured (λ y k f. f.1) (λ y k f. (let e : length (s y) ≡ size = len_is y f in omega (arith, e, small), f)) in
@@ -144,7 +144,7 @@ flag_back (suc (suc n)) lt = absurd (omega (arith, ltb-true (suc (suc n)) 2 lt))
 pub boolean_laid : IsLayout Anything Always Always boolean boolean_at
 unfolding boolean_at
 boolean_laid =
-    let law = placed (λ place. seq {Known = Always} (λ b. cond b 1 0) (number_laid 1) (λ n.
+    let law = placed (λ place. seq {Known = Always} (λ b. cond b 1 0) (number_laid 1) (λ n _.
         tested (ltb n 2) place BadValue (λ b k f. subst (λ (m : ℕ). ltb m 2 ≡ true) k.0 (flag_lt b))
         (λ lt. done_laid (eqb n 1) (flag_back n lt, tt) (λ b k. flag_is b ∙ ap (λ (m : ℕ). eqb m 1) k.0)))) in
     spelled_as boolean (fits_as Always law (λ b k f. tt) (λ b k f. (let lt : cond b 1 0 < 2 = ltb-true _ _ (flag_lt b) in omega (arith, lt), tt))) (λ b k f. append-nil (boolean b))
@@ -153,7 +153,7 @@ boolean_laid =
 pub id_laid : IsLayout Anything Always (λ n. n < 256 ^ 16) id id_at
 unfolding id_at
 id_laid =
-    let law = placed (λ place. seq {Known = Always} {t = number 16} (λ n. 16) (number_laid 1) (λ len.
+    let law = placed (λ place. seq {Known = Always} {t = number 16} (λ n. 16) (number_laid 1) (λ len lt.
         tested (eqb len 16) place BadValue (λ n k f. eq-eqb len 16 (sym k.0)) (λ same. laid_as _ _ (number_laid 16) (λ n k f. ((sym (eqb-true len 16 same), tt), f)) (λ n k f. (tt, f))))) in
     fits_as _ law (λ n k f. f.1) (λ n k f. (lit< tt, f))
 
@@ -161,14 +161,14 @@ id_laid =
 pub exact_laid : (n value : ℕ) → value < 256 ^ n → IsLayout Anything Always Always (λ _. number n value) (exact_at n value)
 unfolding exact_at
 exact_laid n value lt =
-    let law = placed (λ place. seq {Known = Always} {Fits = Always} (λ _. value) (number_laid n) (λ x. tested_last (eqb x value) place BadValue (λ k f. eq-eqb x value (sym k.0)) (λ same. ((sym (eqb-true x value same), tt), tt)))) in
+    let law = placed (λ place. seq {Known = Always} {Fits = Always} (λ _. value) (number_laid n) (λ x _. tested_last (eqb x value) place BadValue (λ k f. eq-eqb x value (sym k.0)) (λ same. ((sym (eqb-true x value same), tt), tt)))) in
     spelled_as _ (fits_as Always law (λ y k f. tt) (λ y k f. (lt, tt))) (λ y k f. append-nil (number n value))
 
 -- a length within a limit
 pub limited_laid : (n limit : ℕ) → IsLayout Anything Always (λ x. (x < 256 ^ n) × (x ≤ limit)) (number n) (limited_at n limit)
 unfolding limited_at
 limited_laid n limit =
-    let law = placed (λ place. seq {Known = Always} {Fits = λ x. x ≤ limit} (λ x. x) (number_laid n) (λ x.
+    let law = placed (λ place. seq {Known = Always} {Fits = λ x. x ≤ limit} (λ x. x) (number_laid n) (λ x _.
         tested (leb x limit) place TooLarge (λ y k f. let le : x ≤ limit = omega (arith, k.0, f) in le-leb x limit le)
         (λ within. fits_as _ (done_laid x (refl, tt) (λ z k. k.0)) (λ y k f. let le = leb-true x limit within in omega (arith, k.0, le)) (λ y k f. tt)))) in
     spelled_as (number n) law (λ x k f. append-nil (number n x))

@@ -1,0 +1,23 @@
+-- Forwarding options: their spelling, and how they are read.
+use Rattle.std.specs.Prelude.{ℕ, ◌<◌, ◌^◌, List, [], ◌∷◌, length}
+use Rattle.std.specs.List.{flat_map}
+use Rattle.wire_core.specs.Spelling.{number, vector, joined}
+use Rattle.wire_core.specs.Reading.{Reader, ◌>>=◌, done, rest_at, number_at, vector_at}
+use Rattle.forwarding_header.specs.declared.forwarding_option.ForwardingOption.{ForwardingOption}
+
+-- an option's bytes (RFC 6940, 6.3.2.3)
+unfoldable pub option : ForwardingOption → List ℕ
+option o = joined (number 1 o.code ∷ number 1 o.flags ∷ vector 2 o.value ∷ [])
+
+abbrev pub options : List ForwardingOption → List ℕ
+options os = flat_map option os
+
+abbrev pub IsSpelledOption : ForwardingOption → Type 0
+IsSpelledOption o = length o.value < 2 ^ 16
+
+unfoldable pub option_at : Reader ForwardingOption
+option_at = do
+  code ← number_at 1
+  flags ← number_at 1
+  value ← vector_at 2 rest_at
+  done (record { code = code; flags = flags; value = value })

@@ -1,0 +1,60 @@
+//! Options that nodes on the way look at.
+
+ghost use Rattle.std.specs.Prelude.{◌≡◌, ◌↔◌, ◌-◌, ◌^◌, ◌≤◌, ◌++◌, IsTrue, OnOk, length, min};
+ghost use Rattle.wire_core.specs.Reading.{Decodes};
+ghost use Rattle.forwarding_header.specs.Options.{option, option_at, IsSpelledOption};
+
+use reload_base::{Bytes, NoMemory, TryCopy};
+use std::alloc::Global;
+use wire_core::{Cursor, DecodeFault, Layout, put_bytes, put_u8, take_bytes};
+
+/// An option of a header (RFC 6940, section 6.3.2.3). No code is known here, so each is kept as it stands.
+#[derive(Debug, Drop)]
+pub struct ForwardingOption {
+    pub code: u8,
+    pub flags: u8,
+    /// At most 65,535 bytes.
+    pub value: Bytes,
+}
+
+impl TryCopy for ForwardingOption {
+    fn copy(&self, alloc: Global) -> Result<ForwardingOption, NoMemory> {
+        Ok(ForwardingOption {
+            code: self.code,
+            flags: self.flags,
+            value: self.value.copy(alloc)?,
+        })
+    }
+}
+
+impl Layout for ForwardingOption {
+    ghost spelling = { option };
+
+    ghost is_spelled = { IsSpelledOption };
+
+    ghost reading = { option_at };
+
+    #[tactic(auto, unfolding(crate::specs::Options::option_at))]
+    fn take(alloc: Global, from: &mut Cursor<'_>) -> Result<ForwardingOption, DecodeFault> {
+        let code = from.take_u8()?;
+        let flags = from.take_u8()?;
+        let value = take_bytes(alloc, from, 2)?;
+        Ok(ForwardingOption { code, flags, value })
+    }
+
+    fn fits(&self) -> bool {
+        self.value.len() < 0x1_0000
+    }
+
+    #[tactic(auto, using(wire_core::proofs::Bytes::lengths), unfolding(crate::specs::Options::option))]
+    fn len(&self) -> u64 {
+        (self.value.len() as u64).saturating_add(4)
+    }
+
+    #[tactic(auto, unfolding(crate::specs::Options::option))]
+    fn put(&self, out: &mut Bytes) -> Result<(), NoMemory> {
+        put_u8(out, self.code)?;
+        put_u8(out, self.flags)?;
+        put_bytes(out, 2, self.value.as_slice())
+    }
+}
