@@ -3,6 +3,8 @@
 
 mod destination;
 mod forwarding_option;
+mod header;
 
 pub use destination::Destination;
 pub use forwarding_option::ForwardingOption;
+pub use header::{Header, encode_header, fits};

@@ -1,0 +1,77 @@
+-- The forwarding header: its spelling, and how it is read (RFC 6940, 6.3.2).
+use Rattle.std.specs.Prelude.{◌≡◌, ℕ, ◌<◌, ◌≤◌, ◌^◌, List, [], ◌∷◌, ◌++◌, length, All, Result, Ok, Err, nat_le}
+use Rattle.wire_core.specs.declared.bad.Bad.{Bad}
+use Rattle.wire_core.specs.declared.bad.Reason.TheVariants.{LengthPast, Trailing, TooLarge}
+use Rattle.wire_core.specs.Part.{Part}
+use Rattle.wire_core.specs.Spelling.{number, joined}
+use Rattle.wire_core.specs.Reading.{Reader, ◌>>=◌, ◌>>◌, done, allowed, place_at, number_at, exact_at, limited_at, filled_at, list_at}
+use Rattle.forwarding_header.specs.declared.header.Header.{Header}
+use Rattle.forwarding_header.specs.Destinations.{destinations, destination_at, IsSpelledDestination}
+use Rattle.forwarding_header.specs.Options.{options, option_at, IsSpelledOption}
+
+-- the fields of fixed size; the version is 0x0a, and the fragment field says that the message is whole
+unfoldable pub fixed : Header → List ℕ
+fixed h = joined (
+    number 4 0xd2454c4f ∷ number 4 h.overlay ∷ number 2 h.sequence ∷ number 1 0x0a ∷ number 1 h.ttl ∷ number 4 0xc0000000
+    ∷ number 4 h.length ∷ number 8 h.id ∷ number 4 h.max_response ∷ [])
+
+-- the three lists behind their lengths
+unfoldable pub lists : Header → List ℕ
+lists h = joined (
+    number 2 (length (destinations h.via)) ∷ number 2 (length (destinations h.dest)) ∷ number 2 (length (options h.options))
+    ∷ destinations h.via ∷ destinations h.dest ∷ options h.options ∷ [])
+
+-- a header's bytes
+abbrev pub header : Header → List ℕ
+header h = fixed h ++ lists h
+
+-- Each entry fits its length, and each list spells at most 4,096 bytes (this profile).
+pub record IsSpelledHeader (h : Header) : Type 0 where
+  pub each_via : All IsSpelledDestination h.via
+  pub each_dest : All IsSpelledDestination h.dest
+  pub each_option : All IsSpelledOption h.options
+  pub via_length : length (destinations h.via) ≤ 4096
+  pub dest_length : length (destinations h.dest) ≤ 4096
+  pub options_length : length (options h.options) ≤ 4096
+
+-- the whole message's length, where the message ends at a place; at most 262,144 (this profile)
+unfoldable pub message_length_at : ℕ → Reader ℕ
+message_length_at end = do
+  place ← place_at
+  len ← limited_at 4 262144
+  allowed (nat_le len end) place LengthPast
+  allowed (nat_le end len) len Trailing
+  done len
+
+unfoldable pub fixed_at : ℕ → Reader Header
+fixed_at end = do
+  exact_at 4 0xd2454c4f
+  overlay ← number_at 4
+  sequence ← number_at 2
+  exact_at 1 0x0a
+  ttl ← number_at 1
+  exact_at 4 0xc0000000
+  length ← message_length_at end
+  id ← number_at 8
+  max_response ← number_at 4
+  done (record { overlay = overlay; sequence = sequence; ttl = ttl; length = length; id = id; max_response = max_response; via = []; dest = []; options = [] })
+
+-- the lists of a header whose other fields were read
+unfoldable pub lists_at : Header → Reader Header
+lists_at h = do
+  via_place ← place_at
+  via_length ← limited_at 2 4096
+  dest_place ← place_at
+  dest_length ← limited_at 2 4096
+  options_place ← place_at
+  options_length ← limited_at 2 4096
+  via ← filled_at via_place via_length (list_at destination_at)
+  dest ← filled_at dest_place dest_length (list_at destination_at)
+  options ← filled_at options_place options_length (list_at option_at)
+  done (record h { via = via; dest = dest; options = options })
+
+-- the header of a message that ends at a place
+unfoldable pub header_at : ℕ → Reader Header
+header_at end = do
+  h ← fixed_at end
+  lists_at h
