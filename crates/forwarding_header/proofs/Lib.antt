@@ -1,0 +1,4 @@
+pub mod DestinationLaw
+pub mod HeaderLaw
+pub mod Messages
+pub mod OptionLaw

@@ -4,7 +4,7 @@ use Rattle.std.specs.List.{flat_map}
 use Rattle.reload_ids.specs.declared.NodeId.{NodeId}
 use Rattle.reload_ids.specs.declared.ResourceId.{ResourceId}
 use Rattle.wire_core.specs.declared.bad.Reason.TheVariants.{BadValue}
-use Rattle.wire_core.specs.Spelling.{number, vector, id}
+use Rattle.wire_core.specs.Spelling.{AreBytes, number, vector, id}
 use Rattle.wire_core.specs.Reading.{Reader, ◌>>=◌, ◌>>◌, done, refused, allowed, place_at, left_at, rest_at, number_at, vector_at, sized_at, id_at}
 use Rattle.forwarding_header.specs.declared.destination.Destination.{Destination}
 use Rattle.forwarding_header.specs.declared.destination.Destination.TheVariants.{Node, Resource, Opaque, Short}
@@ -25,6 +25,13 @@ IsSpelledDestination (Node node) = Unit {0}
 IsSpelledDestination (Resource resource) = Unit {0}
 IsSpelledDestination (Opaque bytes) = length bytes < 255
 IsSpelledDestination (Short n) = 2 ^ 15 ≤ n
+
+-- each number fits its field
+abbrev pub IsDestinationInRange : Destination → Type 0
+IsDestinationInRange (Node node) = node.0 < 2 ^ 128
+IsDestinationInRange (Resource resource) = resource.0 < 2 ^ 128
+IsDestinationInRange (Opaque bytes) = AreBytes bytes
+IsDestinationInRange (Short n) = n < 2 ^ 16
 
 -- opaque bytes behind their length, up to the end of the part
 unfoldable pub opaque_bytes_at : Reader (List ℕ)

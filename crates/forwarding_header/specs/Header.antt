@@ -6,8 +6,8 @@ use Rattle.wire_core.specs.Part.{Part}
 use Rattle.wire_core.specs.Spelling.{number, joined}
 use Rattle.wire_core.specs.Reading.{Reader, ◌>>=◌, ◌>>◌, done, allowed, place_at, number_at, exact_at, limited_at, filled_at, list_at}
 use Rattle.forwarding_header.specs.declared.header.Header.{Header}
-use Rattle.forwarding_header.specs.Destinations.{destinations, destination_at, IsSpelledDestination}
-use Rattle.forwarding_header.specs.Options.{options, option_at, IsSpelledOption}
+use Rattle.forwarding_header.specs.Destinations.{destinations, destination_at, IsSpelledDestination, IsDestinationInRange}
+use Rattle.forwarding_header.specs.Options.{options, option_at, IsSpelledOption, IsOptionInRange}
 
 -- the fields of fixed size; the version is 0x0a, and the fragment field says that the message is whole
 unfoldable pub fixed : Header → List ℕ
@@ -33,6 +33,11 @@ pub record IsSpelledHeader (h : Header) : Type 0 where
   pub via_length : length (destinations h.via) ≤ 4096
   pub dest_length : length (destinations h.dest) ≤ 4096
   pub options_length : length (options h.options) ≤ 4096
+
+-- a value with the place behind it
+abbrev pub placed_behind : {A : Type 0} → Result (A × Part) Bad → Result (A × ℕ) Bad
+placed_behind (Ok x) = Ok (x.0, x.1.place)
+placed_behind (Err bad) = Err bad
 
 -- the whole message's length, where the message ends at a place; at most 262,144 (this profile)
 unfoldable pub message_length_at : ℕ → Reader ℕ
@@ -75,3 +80,26 @@ unfoldable pub header_at : ℕ → Reader Header
 header_at end = do
   h ← fixed_at end
   lists_at h
+
+-- each number fits its field
+pub record IsHeaderInRange (h : Header) : Type 0 where
+  pub overlay : h.overlay < 2 ^ 32
+  pub sequence : h.sequence < 2 ^ 16
+  pub ttl : h.ttl < 2 ^ 8
+  pub id : h.id < 2 ^ 64
+  pub max_response : h.max_response < 2 ^ 32
+  pub via : All IsDestinationInRange h.via
+  pub dest : All IsDestinationInRange h.dest
+  pub options : All IsOptionInRange h.options
+
+-- These bytes are a whole message with this header: they begin with its spelling, and its length is theirs.
+pub record IsMessage (h : Header) (bytes : List ℕ) : Type 0 where
+  pub is_spelled : IsSpelledHeader h
+  pub in_range : IsHeaderInRange h
+  pub length_is : h.length ≡ length bytes
+  pub within : h.length ≤ 262144
+  pub begins : (contents : List ℕ) × (bytes ≡ header h ++ contents)
+
+-- what a whole message has in front, and the place of what follows; or the first fault
+unfoldable pub message_at : List ℕ → Result (Header × ℕ) Bad
+message_at bytes = placed_behind (header_at (length bytes) (record { place = 0; bytes = bytes }))

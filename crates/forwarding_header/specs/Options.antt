@@ -1,7 +1,7 @@
 -- Forwarding options: their spelling, and how they are read.
 use Rattle.std.specs.Prelude.{ℕ, ◌<◌, ◌^◌, List, [], ◌∷◌, length}
 use Rattle.std.specs.List.{flat_map}
-use Rattle.wire_core.specs.Spelling.{number, vector, joined}
+use Rattle.wire_core.specs.Spelling.{AreBytes, number, vector, joined}
 use Rattle.wire_core.specs.Reading.{Reader, ◌>>=◌, done, rest_at, number_at, vector_at}
 use Rattle.forwarding_header.specs.declared.forwarding_option.ForwardingOption.{ForwardingOption}
 
@@ -21,3 +21,9 @@ option_at = do
   flags ← number_at 1
   value ← vector_at 2 rest_at
   done (record { code = code; flags = flags; value = value })
+
+-- each number fits its field
+pub record IsOptionInRange (o : ForwardingOption) : Type 0 where
+  pub code : o.code < 2 ^ 8
+  pub flags : o.flags < 2 ^ 8
+  pub value : AreBytes o.value

@@ -113,7 +113,7 @@ fn take_lists(
 }
 
 #[tactic(auto, unfolding(crate::specs::Header::header_at))]
-fn take_header(alloc: Global, from: &mut Cursor<'_>, end: u64) -> Result<Header, DecodeFault>
+pub(crate) fn take_header(alloc: Global, from: &mut Cursor<'_>, end: u64) -> Result<Header, DecodeFault>
     ensures { Decodes result from.new (header_at end from.old) }
 {
     let fixed = take_fixed(alloc, from, end)?;

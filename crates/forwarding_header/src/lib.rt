@@ -1,10 +1,14 @@
 //! The forwarding header of a message, read and written (RFC 6940, sections 6.3.2 to 6.3.2.3).
 #![tactic(auto)]
 
+mod decode;
 mod destination;
 mod forwarding_option;
 mod header;
+mod way_back;
 
+pub use decode::{decode_header, one_form};
 pub use destination::Destination;
 pub use forwarding_option::ForwardingOption;
 pub use header::{Header, encode_header, fits};
+pub use way_back::reversed;

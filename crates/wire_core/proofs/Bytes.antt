@@ -1,7 +1,7 @@
 -- From the bytes of a number to the number, and back.
 use Rattle.std.proofs.Common.{◌≡◌, ℕ, zero, suc, ◌+◌, ◌*◌, ◌^◌, ◌<◌, ◌≤◌, List, [], ◌∷◌, ◌++◌, length, get_or, take, drop, refl, sym, ap, ◌∙◌, arith, inl, inr}
 use Rattle.std.proofs.lemmas.Bool.{cases_lt}
-use Rattle.std.proofs.lemmas.List.{append-nil, length-append, length-take, get_or-take, get_or-drop, get_or_past, get_or-append-add, take_all}
+use Rattle.std.proofs.lemmas.List.{append-nil, length-append, length-take, get_or-take, get_or-drop, get_or_past, take_at, drop_at}
 use Rattle.std.proofs.lemmas.Nat.{same_from_place}
 use Rattle.std.specs.Int.{byte_at, bytes_high_first}
 use Rattle.byteorder.specs.Endian.{big_bytes, big_from, big_number}
@@ -77,6 +77,13 @@ unfolding number
 big_number-number n x lt =
     let back = big_number-reads_back n x [] lt in
     rw append-nil at back
+
+-- what begins with a number's bytes begins with no other's
+pub number-in_front : (n x y : ℕ) (a b : List ℕ) → number n x ++ a ≡ number n y ++ b → x < 256 ^ n → y < 256 ^ n → (x ≡ y) × (a ≡ b)
+number-in_front n x y a b e lt lu =
+    let front : number n x ≡ number n y = sym (take_at (number n x) a n (length-number n x)) ∙ ap (take n) e ∙ take_at (number n y) b n (length-number n y) in
+    let rest : a ≡ b = sym (drop_at (number n x) a n (length-number n x)) ∙ ap (drop n) e ∙ drop_at (number n y) b n (length-number n y) in
+    (sym (big_number-number n x lt) ∙ ap (big_number n) front ∙ big_number-number n y lu, rest)
 
 -- how long what is spelled is
 pub ruleset lengths = (length-number, length-append)

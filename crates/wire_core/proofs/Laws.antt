@@ -166,6 +166,13 @@ tested_last false place reason passes back = record {
   again = λ at y rest known fits after. let t = passes known fits in absurd cc;
 }
 
+-- ---- a field that is the same in each value
+
+pub seq_fixed : {Y : Type 0} {After : List ℕ → Type 0} {Known Fits : Y → Type 0} {text : List ℕ} {t : Y → List ℕ} {read : Reader (Unit {0})} {next : Reader Y}
+    → IsLayout Anything Always Always (λ _. text) read → IsLayout After Known Fits t next → IsLayout After Known Fits (λ y. text ++ t y) (λ p. and_then (read p) (λ _. next))
+seq_fixed {Known = Known} {Fits = Fits} first others =
+    fits_as Fits (seq {Known = Known} (λ y. tt) first (λ x _. laid_as _ Fits others (λ y k f. ((refl, k), f)) (λ y k f. (k.1, f)))) (λ y k f. f.1) (λ y k f. (tt, f))
+
 -- a value that is made of what was read
 pub made : {A Y : Type 0} {After : List ℕ → Type 0} {Known Fits : Y → Type 0} {FitsA : A → Type 0} {s : A → List ℕ} {spell : Y → List ℕ} {read : Reader A} → (make : A → Y)
     → IsLayout After Always FitsA s read → ((x : A) → FitsA x → Known (make x) × Fits (make x) × (s x ≡ spell (make x)))

@@ -1,8 +1,9 @@
 -- Lists of entries that fill a part, in both directions.
-use Rattle.std.proofs.Common.{◌≡◌, ℕ, zero, suc, ◌+◌, ◌<◌, ◌≤◌, Bool, true, false, cond, eqb, List, [], ◌∷◌, ◌++◌, length, Result, Ok, Err, refl, sym, ap, subst, ◌∙◌, append_assoc, length-append, arith}
+use Rattle.std.proofs.Common.{◌≡◌, ℕ, zero, suc, ◌+◌, ◌<◌, ◌≤◌, Bool, true, false, cond, eqb, List, [], ◌∷◌, ◌++◌, length, All, Result, Ok, Err, refl, sym, ap, subst, ◌∙◌, append_assoc, length-append, arith}
 use Rattle.std.specs.List.{flat_map, AllByRecursion}
 use Rattle.std.proofs.lemmas.Bool.{ne_eqb}
 use Rattle.std.proofs.lemmas.List.{append-nil}
+use Rattle.std.proofs.lemmas.List.Elements.{All-from_recursion, recursion_from_All}
 use Rattle.wire_core.specs.declared.bad.Bad.{Bad}
 use Rattle.wire_core.specs.Part.{Part}
 use Rattle.wire_core.specs.Reading.{Reader, and_then, ◌>>=◌, done, entries_at, list_at}
@@ -43,12 +44,12 @@ module _ {A : Type 0} {Fits : A → Type 0} {s : A → List ℕ} {read : Reader 
       rw (left, law.again place x (flat_map s xs) tt fits.0 tt, others, len) refl
 
   -- the entries that fill a part
-  pub list_laid : ((x : A) → Fits x → 0 < length (s x)) → IsLayout Nothing Always (AllByRecursion Fits) (flat_map s) (list_at read)
+  pub list_laid : ((x : A) → Fits x → 0 < length (s x)) → IsLayout Nothing Always (All Fits) (flat_map s) (list_at read)
   unfolding list_at
   list_laid some = record {
-    takes = λ p xs q bytes e. let t = entries_take (length p.bytes) p xs q bytes e in (tt, t.0, t.1);
+    takes = λ p xs q bytes e. let t = entries_take (length p.bytes) p xs q bytes e in (tt, All-from_recursion Fits xs t.0, t.1);
     again = λ place xs rest known fits after.
         let text : flat_map s xs ++ rest ≡ flat_map s xs = ap (λ (r : List ℕ). flat_map s xs ++ r) after ∙ append-nil (flat_map s xs) in
-        let one = entries_again some (length (flat_map s xs)) place xs (omega arith) fits in
+        let one = entries_again some (length (flat_map s xs)) place xs (omega arith) (recursion_from_All Fits xs fits) in
         ap (λ (bytes : List ℕ). entries_at read (length bytes) (part place bytes)) text ∙ one ∙ ap (λ (r : List ℕ). Ok (xs, part (place + length (flat_map s xs)) r)) (sym after);
   }

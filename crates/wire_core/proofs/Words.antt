@@ -52,6 +52,23 @@ rest_laid = record {
   again = λ place y rest known fits after. rw (after, append-nil) refl;
 }
 
+-- all that is left, where that is len bytes
+pub counted_laid : (place len : ℕ) → IsLayout Nothing (λ bytes. (length bytes ≡ len) × Unit {0}) IsBytes (λ bytes. bytes) (λ p. and_then (allowed (eqb len (length p.bytes)) place BadValue p) (λ _. rest_at))
+unfolding allowed
+counted_laid place len = record {
+  takes = λ p bytes q fits e.
+      elim (eqb len (length p.bytes)) as (λ b. eqb len (length p.bytes) ≡ b → and_then (cond b (done (tt {0})) (refused place BadValue) p) (λ _. rest_at) ≡ Ok (bytes, q) → ((length bytes ≡ len) × Unit {0}) × IsBytes bytes × Follows p bytes q) [
+        | true ↦ λ is f.
+            let t = rest_laid.takes p bytes q fits f in
+            let all : p.bytes ≡ bytes = ap (λ (r : List ℕ × Part). r.0) (ok_is (p.bytes, part (p.place + length p.bytes) []) (bytes, q) f) in
+            ((sym (eqb-true len (length p.bytes) is ∙ ap length all), tt), t.1, t.2)
+        | false ↦ λ isnt f. absurd cc
+      ] refl e;
+  again = λ at bytes rest known fits after.
+      let is : eqb len (length (bytes ++ rest)) ≡ true = eq-eqb len (length (bytes ++ rest)) (omega (arith, known.0, length-append bytes rest, ap length after)) in
+      rw is (rest_laid.again at bytes rest tt fits after);
+}
+
 -- ---- parts
 
 -- a part at its end

@@ -1,6 +1,10 @@
 -- The words that spellings are made of (RFC 6940, 6.3.1).
-use Rattle.std.specs.Prelude.{ℕ, List, [], ◌∷◌, ◌++◌, length, Bool, if◌then◌else◌}
+use Rattle.std.specs.Prelude.{ℕ, ◌<◌, ◌^◌, slice_index, List, [], ◌∷◌, ◌++◌, length, Bool, if◌then◌else◌}
 use Rattle.byteorder.specs.Endian.{big_bytes}
+
+-- each is a byte
+abbrev pub AreBytes : List ℕ → Type 0
+AreBytes bytes = (i : ℕ) → slice_index bytes i < 2 ^ 8
 
 -- a number in n bytes, the highest first
 unfoldable pub number : ℕ → ℕ → List ℕ

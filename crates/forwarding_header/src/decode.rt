@@ -1,0 +1,37 @@
+//! Reading the header of a whole message.
+
+ghost use Rattle.std.specs.Prelude.{◌≡◌, ◌++◌, List, ℕ, [], length, IfOk, Ok};
+ghost use Rattle.wire_core.specs.Reading.{Gives};
+ghost use Rattle.forwarding_header.specs.Header.{header, message_at, IsMessage};
+
+use crate::header::{Header, take_header};
+use std::alloc::Global;
+use wire_core::{Cursor, DecodeFault};
+
+#[tactic(auto, unfolding(crate::specs::Header::message_at))]
+fn decode(alloc: Global, message: &[u8]) -> Result<(Header, usize), DecodeFault>
+    ensures { Gives result (message_at message.now) }
+{
+    let mut from = Cursor::new(message, 0);
+    let end = from.end();
+    let header = take_header(alloc, &mut from, end)?;
+    Ok((header, from.place() as usize))
+}
+
+/// The header of one whole message, and the place of the contents behind it.
+pub fn decode_header(alloc: Global, message: &[u8]) -> Result<(Header, usize), DecodeFault>
+    // What is read is the message's header.
+    ensures found { IfOk result (λ x. IsMessage x.0 message.now × (x.1 ≡ length (header x.0))) }
+    // The header of a message is read, unless memory runs out.
+    ensures only { (h : Header) → IsMessage h message.now → Gives result (Ok (h, length (header h))) }
+    // Which fault it is.
+    ensures exact { Gives result (message_at message.now) }
+{
+    decode(alloc, message)
+}
+
+/// No message is a front of another, and each message has one header.
+pub fn one_form()
+    ensures { (g h : Header) (x y z : List ℕ) → IsMessage g x → IsMessage h y → x ++ z ≡ y → (z ≡ []) × (g ≡ h) }
+{
+}
