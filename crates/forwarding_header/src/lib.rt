@@ -12,3 +12,6 @@ pub use destination::Destination;
 pub use forwarding_option::ForwardingOption;
 pub use header::{Header, encode_header, fits};
 pub use way_back::reversed;
+
+#[cfg(test)]
+mod tests;
