@@ -2,11 +2,12 @@
 use Rattle.std.proofs.Common.{◌≡◌, ℕ, ◌+◌, ◌*◌, ◌/◌, ◌%◌, ◌^◌, ◌<◌, ◌≤◌, Bool, true, false, eqb, leb, List, [], ◌∷◌, ◌++◌, length, refl, sym, ap, ◌∙◌, length-append, lit<, eq-eqb, arith}
 use Rattle.std.proofs.lemmas.Bool.{leb-true, leb-false, eqb-true, eqb-false}
 use Rattle.wire_core.specs.declared.bad.Reason.TheVariants.{BadValue}
-use Rattle.wire_core.specs.Part.{Part}
-use Rattle.wire_core.specs.Spelling.{number, vector, id}
+use Rattle.wire_core.specs.Part.{Part, part}
+use Rattle.wire_core.specs.Spelling.{AreBytes, number, vector, id}
 use Rattle.wire_core.specs.Reading.{Reader, left_at, rest_at, allowed, ◌>>=◌, ◌>>◌}
-use Rattle.wire_core.proofs.Bytes.{IsBytes, length-number}
-use Rattle.wire_core.proofs.Laws.{part, Anything, Nothing, Always, IsLayout, seq, laid_as, fits_as, spelled_as, at_end, placed, chosen, refused_laid, made}
+use Rattle.wire_core.proofs.Bytes.{length-number}
+use Rattle.wire_core.specs.Layout.{Anything, Nothing, Always, IsLayout}
+use Rattle.wire_core.proofs.Laws.{seq, laid_as, fits_as, spelled_as, at_end, placed, chosen, refused_laid, made}
 use Rattle.wire_core.proofs.Words.{number_laid, id_laid, sized_laid, vector_laid, counted_laid}
 use Rattle.forwarding_header.specs.declared.destination.Destination.{Destination}
 use Rattle.forwarding_header.specs.declared.destination.Destination.TheVariants.{Node, Resource, Opaque, Short}
@@ -66,11 +67,11 @@ resource_laid = made (λ n. Resource (record { 0 = n })) (sized_laid 1 17 (lit< 
     (λ n lt. ((refl, tt), (tt, lt), refl)) (λ d k f. is_resource d k.0 f)
 
 -- bytes that are all that is left of the part, behind their length
-opaque_bytes_laid : IsLayout Nothing Always (λ bytes. (length bytes < 256) × IsBytes bytes) (λ bytes. vector 1 bytes) opaque_bytes_at
+opaque_bytes_laid : IsLayout Nothing Always (λ bytes. (length bytes < 256) × AreBytes bytes) (λ bytes. vector 1 bytes) opaque_bytes_at
 unfolding opaque_bytes_at
 opaque_bytes_laid = placed (λ place. seq {Known = Always} (λ bytes. length bytes) (number_laid 1) (λ len _. counted_laid place len))
 
-is_opaque : (d : Destination) → code_of d ≡ 3 → DestinationFits d → (bytes : List ℕ) × ((length (vector 1 bytes) < 256 ^ 1) × ((length bytes < 256) × IsBytes bytes)) × (Opaque bytes ≡ d)
+is_opaque : (d : Destination) → code_of d ≡ 3 → DestinationFits d → (bytes : List ℕ) × ((length (vector 1 bytes) < 256 ^ 1) × ((length bytes < 256) × AreBytes bytes)) × (Opaque bytes ≡ d)
 unfolding code_of
 is_opaque (Node node) e f = absurd (omega arith)
 is_opaque (Resource resource) e f = absurd (omega arith)

@@ -3,10 +3,11 @@ use Rattle.std.proofs.Common.{◌≡◌, ℕ, ◌+◌, ◌^◌, ◌<◌, ◌≤�
 use Rattle.std.proofs.lemmas.Bool.{leb-true, le-leb}
 use Rattle.std.proofs.lemmas.List.{append-nil}
 use Rattle.wire_core.specs.declared.bad.Reason.TheVariants.{LengthPast, Trailing}
-use Rattle.wire_core.specs.Part.{Part}
+use Rattle.wire_core.specs.Part.{Part, part}
 use Rattle.wire_core.specs.Spelling.{number, joined}
-use Rattle.wire_core.proofs.Bytes.{IsBytes, length-number}
-use Rattle.wire_core.proofs.Laws.{part, Anything, Nothing, Always, IsLayout, seq, seq_fixed, done_laid, laid_as, fits_as, spelled_as, placed, tested}
+use Rattle.wire_core.proofs.Bytes.{length-number}
+use Rattle.wire_core.specs.Layout.{Anything, Nothing, Always, IsLayout}
+use Rattle.wire_core.proofs.Laws.{seq, seq_fixed, done_laid, laid_as, fits_as, spelled_as, placed, tested}
 use Rattle.wire_core.proofs.Words.{number_laid, exact_laid, limited_laid, filled_laid}
 use Rattle.wire_core.proofs.Lists.{list_laid}
 use Rattle.forwarding_header.specs.declared.header.Header.{Header}

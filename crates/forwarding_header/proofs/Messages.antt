@@ -4,11 +4,11 @@ use Rattle.std.specs.Prelude.{IfOk}
 use Rattle.std.proofs.lemmas.List.{append-nil, nil_from_length}
 use Rattle.wire_core.specs.declared.bad.Bad.{Bad}
 use Rattle.wire_core.specs.declared.bad.DecodeFault.{DecodeFault}
-use Rattle.wire_core.specs.Part.{Part}
-use Rattle.wire_core.specs.Spelling.{number, joined}
+use Rattle.wire_core.specs.Part.{Part, part}
+use Rattle.wire_core.specs.Spelling.{AreBytes, number, joined}
 use Rattle.wire_core.specs.Reading.{Gives}
-use Rattle.wire_core.proofs.Bytes.{IsBytes, number-in_front}
-use Rattle.wire_core.proofs.Laws.{part, ok_is}
+use Rattle.wire_core.proofs.Bytes.{number-in_front}
+use Rattle.wire_core.proofs.Laws.{ok_is}
 use Rattle.forwarding_header.specs.declared.header.Header.{Header}
 use Rattle.forwarding_header.specs.Header.{fixed, lists, header, header_at, placed_behind, message_at, IsMessage, IsHeaderInRange}
 use Rattle.forwarding_header.proofs.HeaderLaw.{header_laid, FitsBefore}
@@ -19,7 +19,7 @@ read_before (Ok y) x e = let same : (y.0, y.1.place) ≡ x = ok_is _ x e in (y.1
 read_before (Err bad) x e = absurd cc
 
 -- what is read is the header of the message
-pub message_takes : (bytes : List ℕ) (x : Header × ℕ) → IsBytes bytes → message_at bytes ≡ Ok x → IsMessage x.0 bytes × (x.1 ≡ length (header x.0))
+pub message_takes : (bytes : List ℕ) (x : Header × ℕ) → AreBytes bytes → message_at bytes ≡ Ok x → IsMessage x.0 bytes × (x.1 ≡ length (header x.0))
 unfolding message_at
 message_takes bytes x fits e =
     let r = read_before (header_at (length bytes) (part 0 bytes)) x e in
@@ -38,7 +38,7 @@ message_again bytes h m =
     let place : 0 + length (header h) ≡ length (header h) = omega arith in
     ap placed_behind read ∙ ap (λ (n : ℕ). Ok (h, n)) place
 
-pub is_found : (bytes : List ℕ) (r : Result (Header × ℕ) DecodeFault) → IsBytes bytes → Gives r (message_at bytes) → IfOk r (λ x. IsMessage x.0 bytes × (x.1 ≡ length (header x.0)))
+pub is_found : (bytes : List ℕ) (r : Result (Header × ℕ) DecodeFault) → AreBytes bytes → Gives r (message_at bytes) → IfOk r (λ x. IsMessage x.0 bytes × (x.1 ≡ length (header x.0)))
 is_found bytes (Ok x) fits given = message_takes bytes x fits given
 is_found bytes (Err e) fits given = tt
 

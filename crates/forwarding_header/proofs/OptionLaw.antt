@@ -2,8 +2,9 @@
 use Rattle.std.proofs.Common.{◌≡◌, ℕ, ◌^◌, ◌<◌, List, [], length, refl, length-append, arith}
 use Rattle.wire_core.specs.Part.{Part}
 use Rattle.wire_core.specs.Spelling.{number, vector}
-use Rattle.wire_core.proofs.Bytes.{IsBytes, length-number}
-use Rattle.wire_core.proofs.Laws.{Anything, Always, IsLayout, seq, done_laid, laid_as, fits_as}
+use Rattle.wire_core.proofs.Bytes.{length-number}
+use Rattle.wire_core.specs.Layout.{Anything, Always, IsLayout}
+use Rattle.wire_core.proofs.Laws.{seq, done_laid, laid_as, fits_as}
 use Rattle.wire_core.proofs.Words.{number_laid, vector_laid, rest_laid}
 use Rattle.forwarding_header.specs.declared.forwarding_option.ForwardingOption.{ForwardingOption}
 use Rattle.forwarding_header.specs.Options.{option, option_at, IsSpelledOption, IsOptionInRange}

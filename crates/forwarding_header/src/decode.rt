@@ -1,7 +1,10 @@
 //! Reading the header of a whole message.
 
 ghost use Rattle.std.specs.Prelude.{◌≡◌, ◌++◌, List, ℕ, [], length, IfOk, Ok};
+ghost use Rattle.wire_core.specs.Layout.{Anything, Always, IsLayout};
 ghost use Rattle.wire_core.specs.Reading.{Gives};
+ghost use Rattle.forwarding_header.specs.Destinations.{destination, destination_at, IsSpelledDestination, IsDestinationInRange};
+ghost use Rattle.forwarding_header.specs.Options.{option, option_at, IsSpelledOption, IsOptionInRange};
 ghost use Rattle.forwarding_header.specs.Header.{header, message_at, IsMessage};
 
 use crate::header::{Header, take_header};
@@ -33,5 +36,12 @@ pub fn decode_header(alloc: Global, message: &[u8]) -> Result<(Header, usize), D
 /// No message is a front of another, and each message has one header.
 pub fn one_form()
     ensures { (g h : Header) (x y z : List ℕ) → IsMessage g x → IsMessage h y → x ++ z ≡ y → (z ≡ []) × (g ≡ h) }
+{
+}
+
+/// Destinations and options are read as they are spelled, and nothing else is.
+pub fn entries_are_layouts()
+    ensures destinations { IsLayout Anything Always (λ d. IsSpelledDestination d × IsDestinationInRange d) destination destination_at }
+    ensures options { IsLayout Anything Always (λ o. IsSpelledOption o × IsOptionInRange o) option option_at }
 {
 }

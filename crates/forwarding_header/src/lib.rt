@@ -7,7 +7,7 @@ mod forwarding_option;
 mod header;
 mod way_back;
 
-pub use decode::{decode_header, one_form};
+pub use decode::{decode_header, entries_are_layouts, one_form};
 pub use destination::Destination;
 pub use forwarding_option::ForwardingOption;
 pub use header::{Header, encode_header, fits};

@@ -6,21 +6,17 @@ use Rattle.std.proofs.lemmas.Nat.{same_from_place}
 use Rattle.std.specs.Int.{byte_at, bytes_high_first}
 use Rattle.byteorder.specs.Endian.{big_bytes, big_from, big_number}
 use Rattle.byteorder.specs.Numbers.{big_from-cons, big_from-lt, big_number-reads_back, length-bytes_high_first}
-use Rattle.wire_core.specs.Spelling.{number}
+use Rattle.wire_core.specs.Spelling.{AreBytes, number}
 
--- each is below 256
-abbrev pub IsBytes : List ℕ → Type 0
-IsBytes bytes = (i : ℕ) → get_or bytes i 0 < 256
+pub AreBytes-rest : (b : ℕ) (bytes : List ℕ) → AreBytes (b ∷ bytes) → AreBytes bytes
+AreBytes-rest b bytes h i = h (suc i)
 
-pub IsBytes-rest : (b : ℕ) (bytes : List ℕ) → IsBytes (b ∷ bytes) → IsBytes bytes
-IsBytes-rest b bytes h i = h (suc i)
+pub AreBytes-behind : (front rest : List ℕ) → AreBytes (front ++ rest) → AreBytes rest
+AreBytes-behind [] rest h = h
+AreBytes-behind (b ∷ front) rest h = AreBytes-behind front rest (AreBytes-rest b (front ++ rest) h)
 
-pub IsBytes-behind : (front rest : List ℕ) → IsBytes (front ++ rest) → IsBytes rest
-IsBytes-behind [] rest h = h
-IsBytes-behind (b ∷ front) rest h = IsBytes-behind front rest (IsBytes-rest b (front ++ rest) h)
-
-pub IsBytes-take : (n : ℕ) (bytes : List ℕ) → IsBytes bytes → IsBytes (take n bytes)
-IsBytes-take n bytes h i =
+pub AreBytes-take : (n : ℕ) (bytes : List ℕ) → AreBytes bytes → AreBytes (take n bytes)
+AreBytes-take n bytes h i =
     elim (cases_lt i n) [
       | inl lt ↦ rw (get_or-take n bytes i 0 lt) (h i)
       | inr le ↦ rw (get_or_past (take n bytes) i 0 (omega (arith, length-take n bytes))) (omega arith)
@@ -30,13 +26,13 @@ byte-lt : (k x : ℕ) → byte_at k x < 256
 byte-lt zero x = omega arith
 byte-lt (suc k) x = omega arith
 
-IsBytes-bytes_high_first : (n x : ℕ) → IsBytes (bytes_high_first n x)
-IsBytes-bytes_high_first zero x i = omega arith
-IsBytes-bytes_high_first (suc n) x zero = byte-lt n x
-IsBytes-bytes_high_first (suc n) x (suc i) = IsBytes-bytes_high_first n x i
+AreBytes-bytes_high_first : (n x : ℕ) → AreBytes (bytes_high_first n x)
+AreBytes-bytes_high_first zero x i = omega arith
+AreBytes-bytes_high_first (suc n) x zero = byte-lt n x
+AreBytes-bytes_high_first (suc n) x (suc i) = AreBytes-bytes_high_first n x i
 
 -- as many bytes that make one number are the same bytes
-big_from-same : (n : ℕ) (xs ys : List ℕ) → length xs ≡ n → length ys ≡ n → IsBytes xs → IsBytes ys → big_from 0 n xs ≡ big_from 0 n ys → xs ≡ ys
+big_from-same : (n : ℕ) (xs ys : List ℕ) → length xs ≡ n → length ys ≡ n → AreBytes xs → AreBytes ys → big_from 0 n xs ≡ big_from 0 n ys → xs ≡ ys
 big_from-same zero [] [] l m f g e = refl
 big_from-same zero (x ∷ xs) ys l m f g e = absurd (omega arith)
 big_from-same zero [] (y ∷ ys) l m f g e = absurd (omega arith)
@@ -44,8 +40,8 @@ big_from-same (suc n) [] ys l m f g e = absurd (omega arith)
 big_from-same (suc n) (x ∷ xs) [] l m f g e = absurd (omega arith)
 big_from-same (suc n) (x ∷ xs) (y ∷ ys) l m f g e =
     let high = rw (big_from-cons 0 n x xs, big_from-cons 0 n y ys) at e in
-    let p = same_from_place x (big_from 0 n xs) y (big_from 0 n ys) (256 ^ n) (big_from-lt 0 n xs (IsBytes-rest x xs f)) (big_from-lt 0 n ys (IsBytes-rest y ys g)) high in
-    let rest = big_from-same n xs ys (omega arith) (omega arith) (IsBytes-rest x xs f) (IsBytes-rest y ys g) p.1 in
+    let p = same_from_place x (big_from 0 n xs) y (big_from 0 n ys) (256 ^ n) (big_from-lt 0 n xs (AreBytes-rest x xs f)) (big_from-lt 0 n ys (AreBytes-rest y ys g)) high in
+    let rest = big_from-same n xs ys (omega arith) (omega arith) (AreBytes-rest x xs f) (AreBytes-rest y ys g) p.1 in
     rw (p.0, rest) refl
 
 -- ---- the words
@@ -54,22 +50,22 @@ pub length-number : (n x : ℕ) → length (number n x) ≡ n
 unfolding number
 length-number n x = length-bytes_high_first n x
 
-pub IsBytes-number : (n x : ℕ) → IsBytes (number n x)
+pub AreBytes-number : (n x : ℕ) → AreBytes (number n x)
 unfolding number
-IsBytes-number n x = IsBytes-bytes_high_first n x
+AreBytes-number n x = AreBytes-bytes_high_first n x
 
 -- what n bytes make is a number of n bytes
-pub big_number-lt : (n : ℕ) (bytes : List ℕ) → IsBytes bytes → big_number n bytes < 256 ^ n
+pub big_number-lt : (n : ℕ) (bytes : List ℕ) → AreBytes bytes → big_number n bytes < 256 ^ n
 big_number-lt n bytes fits = big_from-lt 0 n bytes fits
 
 -- the bytes of the number that n bytes make are these bytes
-pub number-big_number : (n : ℕ) (bytes : List ℕ) → length bytes ≡ n → IsBytes bytes → number n (big_number n bytes) ≡ bytes
+pub number-big_number : (n : ℕ) (bytes : List ℕ) → length bytes ≡ n → AreBytes bytes → number n (big_number n bytes) ≡ bytes
 unfolding number
 number-big_number n bytes len fits =
     let x = big_number n bytes in
     let back : big_from 0 n (bytes_high_first n x ++ []) ≡ x = big_number-reads_back n x [] (big_number-lt n bytes fits) in
     let same : big_from 0 n (bytes_high_first n x) ≡ x = rw append-nil at back in
-    big_from-same n (bytes_high_first n x) bytes (length-bytes_high_first n x) len (IsBytes-bytes_high_first n x) fits same
+    big_from-same n (bytes_high_first n x) bytes (length-bytes_high_first n x) len (AreBytes-bytes_high_first n x) fits same
 
 -- the number that a number's bytes make is this number
 pub big_number-number : (n x : ℕ) → x < 256 ^ n → big_number n (number n x) ≡ x

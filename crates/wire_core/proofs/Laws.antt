@@ -7,35 +7,11 @@ use Rattle.byteorder.specs.Endian.{big_number}
 use Rattle.wire_core.specs.declared.bad.Bad.{Bad}
 use Rattle.wire_core.specs.declared.bad.Reason.{Reason}
 use Rattle.wire_core.specs.declared.bad.Reason.TheVariants.{BadValue, Trailing}
-use Rattle.wire_core.specs.Part.{Part, behind}
-use Rattle.wire_core.specs.Spelling.{number, boolean, vector, id}
+use Rattle.wire_core.specs.Part.{Part, part, behind}
+use Rattle.wire_core.specs.Spelling.{AreBytes, number, boolean, vector, id}
+use Rattle.wire_core.specs.Layout.{Follows, Anything, Nothing, Always, IsLayout}
 use Rattle.wire_core.specs.Reading.{Reader, and_then, ◌>>=◌, done, refused, allowed, place_at, ended, rest_at, bytes_at, number_at, boolean_at, stretch_at, part_at, inside, vector_at, sized_part_at, sized_at, id_at, entries_at, list_at}
-use Rattle.wire_core.proofs.Bytes.{IsBytes, IsBytes-behind, IsBytes-take, length-number, IsBytes-number, number-big_number, big_number-number, big_number-lt}
-
--- a part with these bytes
-abbrev pub part : ℕ → List ℕ → Part
-part place bytes = record { place = place; bytes = bytes }
-
--- q is what is left of p behind a text
-pub record Follows (p : Part) (text : List ℕ) (q : Part) : Type 0 where
-  pub bytes : p.bytes ≡ text ++ q.bytes
-  pub place : q.place ≡ p.place + length text
-
--- anything may stand behind, or nothing
-abbrev pub Anything : List ℕ → Type 0
-Anything rest = Unit {0}
-
-abbrev pub Nothing : List ℕ → Type 0
-Nothing rest = rest ≡ []
-
--- of each value
-abbrev pub Always : {Y : Type 0} → Y → Type 0
-Always y = Unit {0}
-
--- Of the values that are known (by the fields in front) and fit, `read` takes what `spell` gives, with what may stand after it.
-pub record IsLayout {Y : Type 0} (After : List ℕ → Type 0) (Known Fits : Y → Type 0) (spell : Y → List ℕ) (read : Reader Y) : Type 0 where
-  pub takes : (p : Part) (y : Y) (q : Part) → IsBytes p.bytes → read p ≡ Ok (y, q) → Known y × Fits y × Follows p (spell y) q
-  pub again : (place : ℕ) (y : Y) (rest : List ℕ) → Known y → Fits y → After rest → read (part place (spell y ++ rest)) ≡ Ok (y, part (place + length (spell y)) rest)
+use Rattle.wire_core.proofs.Bytes.{AreBytes-behind, AreBytes-take, length-number, AreBytes-number, number-big_number, big_number-number, big_number-lt}
 
 -- a step that didn't fail
 pub then_ok : {A B : Type 0} (r : Result (A × Part) Bad) (next : A → Reader B) (y : B × Part) → and_then r next ≡ Ok y → (x : A) × (m : Part) × (r ≡ Ok (x, m)) × (next x m ≡ Ok y)
@@ -48,8 +24,8 @@ fine x = Ok x
 pub ok_is : {A : Type 0} (x y : A) → fine x ≡ fine y → x ≡ y
 ok_is x y e = cc
 
-pub IsBytes-follows : (p : Part) (text : List ℕ) (q : Part) → IsBytes p.bytes → Follows p text q → IsBytes q.bytes
-IsBytes-follows p text q fits f = IsBytes-behind text q.bytes (subst IsBytes f.bytes fits)
+pub AreBytes-follows : (p : Part) (text : List ℕ) (q : Part) → AreBytes p.bytes → Follows p text q → AreBytes q.bytes
+AreBytes-follows p text q fits f = AreBytes-behind text q.bytes (subst AreBytes f.bytes fits)
 
 pub Follows-then : (p : Part) (a : List ℕ) (m : Part) (b : List ℕ) (q : Part) → Follows p a m → Follows m b q → Follows p (a ++ b) q
 Follows-then p a m b q f g = record {
@@ -66,7 +42,7 @@ seq {A} {Y} {After} {Known} {Fits} {FitsA} {s} {t} {read} {next} field first oth
   takes = λ p y q bytes e.
       let a = then_ok (read p) next (y, q) e in
       let f = first.takes p a.0 a.1 bytes a.2 in
-      let o = (others a.0 f.1).takes a.1 y q (IsBytes-follows p (s a.0) a.1 bytes f.2) a.3 in
+      let o = (others a.0 f.1).takes a.1 y q (AreBytes-follows p (s a.0) a.1 bytes f.2) a.3 in
       let same = o.0.0 in
       (o.0.1, (subst FitsA (sym same) f.1, o.1), subst (λ (x : A). Follows p (s x ++ t y) q) (sym same) (Follows-then p (s a.0) a.1 (t y) q f.2 o.2));
   again = λ place y rest known fits after.

@@ -5,15 +5,16 @@ use Rattle.std.proofs.lemmas.Bool.{ne_eqb}
 use Rattle.std.proofs.lemmas.List.{append-nil}
 use Rattle.std.proofs.lemmas.List.Elements.{All-from_recursion, recursion_from_All}
 use Rattle.wire_core.specs.declared.bad.Bad.{Bad}
-use Rattle.wire_core.specs.Part.{Part}
+use Rattle.wire_core.specs.Spelling.{AreBytes}
+use Rattle.wire_core.specs.Part.{Part, part}
+use Rattle.wire_core.specs.Layout.{Follows, Anything, Nothing, Always, IsLayout}
 use Rattle.wire_core.specs.Reading.{Reader, and_then, ◌>>=◌, done, entries_at, list_at}
-use Rattle.wire_core.proofs.Bytes.{IsBytes}
-use Rattle.wire_core.proofs.Laws.{part, Follows, Follows-then, IsBytes-follows, Anything, Nothing, Always, IsLayout, then_ok, ok_is}
+use Rattle.wire_core.proofs.Laws.{Follows-then, AreBytes-follows, then_ok, ok_is}
 
 module _ {A : Type 0} {Fits : A → Type 0} {s : A → List ℕ} {read : Reader A} (law : IsLayout Anything Always Fits s read) where
 
   -- what was read is spelled so
-  entries_take : (n : ℕ) (p : Part) (xs : List A) (q : Part) → IsBytes p.bytes → entries_at read n p ≡ Ok (xs, q) → AllByRecursion Fits xs × Follows p (flat_map s xs) q
+  entries_take : (n : ℕ) (p : Part) (xs : List A) (q : Part) → AreBytes p.bytes → entries_at read n p ≡ Ok (xs, q) → AllByRecursion Fits xs × Follows p (flat_map s xs) q
   unfolding entries_at
   entries_take zero p xs q bytes e =
       subst (λ (r : List A × Part). AllByRecursion Fits r.0 × Follows p (flat_map s r.0) r.1) (ok_is ([], p) (xs, q) e) (tt, record { bytes = refl; place = omega arith })
@@ -24,7 +25,7 @@ module _ {A : Type 0} {Fits : A → Type 0} {s : A → List ℕ} {read : Reader 
             let a = then_ok (read p) (λ x. entries_at read n >>= λ ys. done (x ∷ ys)) (xs, q) f in
             let b = then_ok (entries_at read n a.1) (λ ys. done (a.0 ∷ ys)) (xs, q) a.3 in
             let first = law.takes p a.0 a.1 bytes a.2 in
-            let others = entries_take n a.1 b.0 b.1 (IsBytes-follows p (s a.0) a.1 bytes first.2) b.2 in
+            let others = entries_take n a.1 b.0 b.1 (AreBytes-follows p (s a.0) a.1 bytes first.2) b.2 in
             subst (λ (r : List A × Part). AllByRecursion Fits r.0 × Follows p (flat_map s r.0) r.1) (ok_is (a.0 ∷ b.0, b.1) (xs, q) b.3)
             ((first.1, others.0), Follows-then p (s a.0) a.1 (flat_map s b.0) b.1 first.2 others.1)
       ] e

@@ -6,11 +6,12 @@ use Rattle.byteorder.specs.Endian.{big_number}
 use Rattle.wire_core.specs.declared.bad.Bad.{Bad}
 use Rattle.wire_core.specs.declared.bad.Reason.{Reason}
 use Rattle.wire_core.specs.declared.bad.Reason.TheVariants.{BadValue, Trailing, TooLarge}
-use Rattle.wire_core.specs.Part.{Part, behind}
-use Rattle.wire_core.specs.Spelling.{number, boolean, vector, id}
+use Rattle.wire_core.specs.Part.{Part, part, behind}
+use Rattle.wire_core.specs.Spelling.{AreBytes, number, boolean, vector, id}
+use Rattle.wire_core.specs.Layout.{Follows, Anything, Nothing, Always, IsLayout}
 use Rattle.wire_core.specs.Reading.{Reader, and_then, ◌>>=◌, done, refused, allowed, place_at, ended, rest_at, bytes_at, number_at, boolean_at, exact_at, limited_at, stretch_at, part_at, sized_part_at, filled_at, inside, vector_at, sized_at, id_at}
-use Rattle.wire_core.proofs.Bytes.{IsBytes, IsBytes-take, length-number, IsBytes-number, number-big_number, big_number-number, big_number-lt}
-use Rattle.wire_core.proofs.Laws.{part, Follows, Anything, Nothing, Always, IsLayout, then_ok, ok_is, seq, done_laid, laid_as, fits_as, read_as, spelled_as, at_end, placed, tested, tested_last, made}
+use Rattle.wire_core.proofs.Bytes.{AreBytes-take, length-number, AreBytes-number, number-big_number, big_number-number, big_number-lt}
+use Rattle.wire_core.proofs.Laws.{then_ok, ok_is, seq, done_laid, laid_as, fits_as, read_as, spelled_as, at_end, placed, tested, tested_last, made}
 
 -- a test that was passed
 pub guard_ok : {A : Type 0} (b : Bool) (bad : Bad) (x y : A) → cond b (Err bad) (Ok x) ≡ Ok y → (b ≡ false) × (x ≡ y)
@@ -18,20 +19,20 @@ guard_ok true bad x y e = absurd cc
 guard_ok false bad x y e = (refl, cc)
 
 -- the next n bytes
-abbrev pub AreBytes : ℕ → List ℕ → Type 0
-AreBytes n bytes = (length bytes ≡ n) × IsBytes bytes
+abbrev pub AreNextBytes : ℕ → List ℕ → Type 0
+AreNextBytes n bytes = (length bytes ≡ n) × AreBytes bytes
 
 front_follows : (n : ℕ) (p : Part) → n ≤ length p.bytes → Follows p (take n p.bytes) (behind n p)
 front_follows n p long = record { bytes = sym (take-append-drop n p.bytes); place = let len : length (take n p.bytes) ≡ n = omega (arith, length-take n p.bytes) in rw len refl }
 
-pub bytes_laid : (n : ℕ) → IsLayout Anything Always (AreBytes n) (λ bytes. bytes) (bytes_at n)
+pub bytes_laid : (n : ℕ) → IsLayout Anything Always (AreNextBytes n) (λ bytes. bytes) (bytes_at n)
 unfolding bytes_at
 bytes_laid n = record {
   takes = λ p y q bytes e.
       let g = guard_ok (ltb (length p.bytes) n) _ (take n p.bytes, behind n p) (y, q) e in
       let long : n ≤ length p.bytes = ltb-false _ _ g.0 in
-      subst (λ (r : List ℕ × Part). Unit {0} × AreBytes n r.0 × Follows p r.0 r.1) g.1
-      (tt, (omega (arith, length-take n p.bytes), IsBytes-take n p.bytes bytes), front_follows n p long);
+      subst (λ (r : List ℕ × Part). Unit {0} × AreNextBytes n r.0 × Follows p r.0 r.1) g.1
+      (tt, (omega (arith, length-take n p.bytes), AreBytes-take n p.bytes bytes), front_follows n p long);
   again = λ place y rest known fits after.
       let long : ltb (length (y ++ rest)) n ≡ false = le-ltb _ _ (omega (arith, length-append y rest, fits.0)) in
       rw (long, take_at y rest n fits.0, drop_at y rest n fits.0, fits.0) refl;
@@ -41,23 +42,23 @@ pub number_laid : (n : ℕ) → IsLayout Anything Always (λ x. x < 256 ^ n) (nu
 unfolding number_at
 number_laid n =
     made (big_number n) (bytes_laid n) (λ bytes fits. (tt, big_number-lt n bytes fits.1, sym (number-big_number n bytes fits.0 fits.1)))
-    (λ x known lt. (number n x, (length-number n x, IsBytes-number n x), big_number-number n x lt))
+    (λ x known lt. (number n x, (length-number n x, AreBytes-number n x), big_number-number n x lt))
 
 -- all that is left
-pub rest_laid : IsLayout Nothing Always IsBytes (λ bytes. bytes) rest_at
+pub rest_laid : IsLayout Nothing Always AreBytes (λ bytes. bytes) rest_at
 rest_laid = record {
   takes = λ p y q bytes e.
-      subst (λ (r : List ℕ × Part). Unit {0} × IsBytes r.0 × Follows p r.0 r.1) (ok_is (p.bytes, part (p.place + length p.bytes) []) (y, q) e)
+      subst (λ (r : List ℕ × Part). Unit {0} × AreBytes r.0 × Follows p r.0 r.1) (ok_is (p.bytes, part (p.place + length p.bytes) []) (y, q) e)
       (tt, bytes, record { bytes = sym (append-nil p.bytes); place = refl });
   again = λ place y rest known fits after. rw (after, append-nil) refl;
 }
 
 -- all that is left, where that is len bytes
-pub counted_laid : (place len : ℕ) → IsLayout Nothing (λ bytes. (length bytes ≡ len) × Unit {0}) IsBytes (λ bytes. bytes) (λ p. and_then (allowed (eqb len (length p.bytes)) place BadValue p) (λ _. rest_at))
+pub counted_laid : (place len : ℕ) → IsLayout Nothing (λ bytes. (length bytes ≡ len) × Unit {0}) AreBytes (λ bytes. bytes) (λ p. and_then (allowed (eqb len (length p.bytes)) place BadValue p) (λ _. rest_at))
 unfolding allowed
 counted_laid place len = record {
   takes = λ p bytes q fits e.
-      elim (eqb len (length p.bytes)) as (λ b. eqb len (length p.bytes) ≡ b → and_then (cond b (done (tt {0})) (refused place BadValue) p) (λ _. rest_at) ≡ Ok (bytes, q) → ((length bytes ≡ len) × Unit {0}) × IsBytes bytes × Follows p bytes q) [
+      elim (eqb len (length p.bytes)) as (λ b. eqb len (length p.bytes) ≡ b → and_then (cond b (done (tt {0})) (refused place BadValue) p) (λ _. rest_at) ≡ Ok (bytes, q) → ((length bytes ≡ len) × Unit {0}) × AreBytes bytes × Follows p bytes q) [
         | true ↦ λ is f.
             let t = rest_laid.takes p bytes q fits f in
             let all : p.bytes ≡ bytes = ap (λ (r : List ℕ × Part). r.0) (ok_is (p.bytes, part (p.place + length p.bytes) []) (bytes, q) f) in
@@ -93,7 +94,7 @@ filled {A} {Fits} {s} {read} place len law = record {
       let back : behind len p ≡ a.1 = ap (λ (r : Part × Part). r.1) g.1 in
       let b = then_ok (read a.0) (λ x left. and_then (ended left) (λ _ _. done x a.1)) (y, q) a.3 in
       let c = ended_ok b.1 (λ _ _. done b.0 a.1) (y, q) b.3 in
-      let inner = subst (λ (r : Part). IsBytes r.bytes) front (IsBytes-take len p.bytes bytes) in
+      let inner = subst (λ (r : Part). AreBytes r.bytes) front (AreBytes-take len p.bytes bytes) in
       let t = law.takes a.0 b.0 b.1 inner b.2 in
       let text : take len p.bytes ≡ s b.0 = ap (λ (r : Part). r.bytes) front ∙ t.2.bytes ∙ ap (λ (r : List ℕ). s b.0 ++ r) c.0 ∙ append-nil (s b.0) in
       let measured : length (s b.0) ≡ len = omega (arith, ap length text, length-take len p.bytes) in

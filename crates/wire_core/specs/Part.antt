@@ -13,3 +13,7 @@ end_of p = p.place + length p.bytes
 -- what is left of it behind its first n bytes
 abbrev pub behind : ℕ → Part → Part
 behind n p = record { place = p.place + n; bytes = drop n p.bytes }
+
+-- a part with these bytes
+abbrev pub part : ℕ → List ℕ → Part
+part place bytes = record { place = place; bytes = bytes }

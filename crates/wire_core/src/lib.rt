@@ -2,11 +2,13 @@
 #![tactic(auto)]
 
 mod bad;
+mod both_ways;
 mod cursor;
 mod layout;
 mod put;
 
 pub use bad::{Bad, DecodeFault, Reason, allowed};
+pub use both_ways::words_are_layouts;
 pub use cursor::Cursor;
 pub use layout::{
     Layout, list_fits, list_len, put_list, put_vector, take_bytes, take_filled, take_list, take_vector,

@@ -1,0 +1,6 @@
+use Rattle.forwarding_header.proofs.DestinationLaw.{destination_laid}
+use Rattle.forwarding_header.proofs.OptionLaw.{option_laid}
+use Rattle.forwarding_header.proofs.decode.entries_are_layouts.Goals as goal
+
+pub returns : goal.returns
+returns c = record { destinations = destination_laid; options = option_laid }
