@@ -172,13 +172,28 @@ fn a_header_there_and_back(rt: HostRuntime) -> Result<(), Fail> {
 }
 
 #[test]
-fn what_has_no_spelling(rt: HostRuntime) -> Result<(), Fail> {
+fn entries_without_a_spelling(rt: HostRuntime) -> Result<(), Fail> {
     let mut header = full(rt.alloc())?;
-    header.via.set(1, Destination::Short(0x7fff));
-    assert!(rt; !fits(&header));
-    header.via.set(1, Destination::Opaque(Bytes::from_slice(rt.alloc(), &[0; 254])?));
+    header.via.push(Destination::Opaque(Bytes::from_slice(rt.alloc(), &[0; 254])?))?;
     assert!(rt; fits(&header));
-    header.via.set(1, Destination::Opaque(Bytes::from_slice(rt.alloc(), &[0; 255])?));
+    header.via.push(Destination::Opaque(Bytes::from_slice(rt.alloc(), &[0; 255])?))?;
+    assert!(rt; !fits(&header));
+
+    let mut header = full(rt.alloc())?;
+    header.dest.push(Destination::Short(0x7fff))?;
+    assert!(rt; !fits(&header));
+    Ok(())
+}
+
+#[test]
+fn the_longest_list(rt: HostRuntime) -> Result<(), Fail> {
+    // The destinations have 27 bytes, and 226 nodes more 4,068.
+    let mut header = full(rt.alloc())?;
+    for i in 0..226u8 {
+        header.dest.push(Destination::Node(NodeId(u128::from(i))))?;
+    }
+    assert!(rt; fits(&header));
+    header.dest.push(Destination::Short(0x8000))?;
     assert!(rt; !fits(&header));
     Ok(())
 }
