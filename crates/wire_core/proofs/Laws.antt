@@ -166,6 +166,6 @@ made {A} {Y} {After} {Known} {Fits} {FitsA} {s} {spell} {read} make law there ba
       let text : s b.0 ≡ spell y = m.2 ∙ ap spell b.2 in
       let one = law.again place b.0 rest tt b.1 after in
       let two : and_then (read (part place (s b.0 ++ rest))) (λ x. done (make x)) ≡ Ok (y, part (place + length (s b.0)) rest) =
-          ap (λ r. and_then r (λ x. done (make x))) one ∙ ap (λ (z : Y). Ok (z, part (place + length (s b.0)) rest)) b.2 in
+      ap (λ r. and_then r (λ x. done (make x))) one ∙ ap (λ (z : Y). Ok (z, part (place + length (s b.0)) rest)) b.2 in
       subst (λ (t : List ℕ). and_then (read (part place (t ++ rest))) (λ x. done (make x)) ≡ Ok (y, part (place + length t) rest)) text two;
 }

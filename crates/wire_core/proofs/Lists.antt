@@ -12,7 +12,6 @@ use Rattle.wire_core.specs.Reading.{Reader, and_then, ◌>>=◌, done, entries_a
 use Rattle.wire_core.proofs.Laws.{Follows-then, AreBytes-follows, then_ok, ok_is}
 
 module _ {A : Type 0} {Fits : A → Type 0} {s : A → List ℕ} {read : Reader A} (law : IsLayout Anything Always Fits s read) where
-
   -- what was read is spelled so
   entries_take : (n : ℕ) (p : Part) (xs : List A) (q : Part) → AreBytes p.bytes → entries_at read n p ≡ Ok (xs, q) → AllByRecursion Fits xs × Follows p (flat_map s xs) q
   unfolding entries_at

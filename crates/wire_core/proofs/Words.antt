@@ -140,7 +140,7 @@ pub sized_laid : {A : Type 0} {Fits : A → Type 0} {s : A → List ℕ} {read :
 unfolding sized_at sized_part_at
 sized_laid {A} {Fits} {s} {read} n size small len_is law =
     let in_row = placed (λ place. seq {Known = Always} (λ x. length (s x)) (number_laid n) (λ len lt.
-        tested (eqb len size) place BadValue (λ y k f. let e : len ≡ size = sym k.0 ∙ len_is y f in eq-eqb len size e) (λ same. laid_as _ Fits (filled place len law) (λ y k f. ((f.1, tt), f.0)) (λ y k f. (tt, (f, k.0)))))) in
+    tested (eqb len size) place BadValue (λ y k f. let e : len ≡ size = sym k.0 ∙ len_is y f in eq-eqb len size e) (λ same. laid_as _ Fits (filled place len law) (λ y k f. ((f.1, tt), f.0)) (λ y k f. (tt, (f, k.0)))))) in
     let measured = spelled_as (λ x. number n size ++ s x) in_row (λ y k f. ap (λ (m : ℕ). number n m ++ s y) (len_is y f.1)) in
     let fitting = fits_as Fits measured (λ y k f. f.1) (λ y k f. (let e : length (s y) ≡ size = len_is y f in omega (arith, e, small), f)) in
     read_as (sized_at n size read) fitting (λ p. regrouped_3 (place_at p) (λ _. number_at n) (λ place len. allowed (eqb len size) place BadValue) stretch_at (λ part. inside part read))
@@ -163,8 +163,8 @@ pub boolean_laid : IsLayout Anything Always Always boolean boolean_at
 unfolding boolean_at
 boolean_laid =
     let law = placed (λ place. seq {Known = Always} (λ b. cond b 1 0) (number_laid 1) (λ n _.
-        tested (ltb n 2) place BadValue (λ b k f. subst (λ (m : ℕ). ltb m 2 ≡ true) k.0 (flag_lt b))
-        (λ lt. done_laid (eqb n 1) (flag_back n lt, tt) (λ b k. flag_is b ∙ ap (λ (m : ℕ). eqb m 1) k.0)))) in
+    tested (ltb n 2) place BadValue (λ b k f. subst (λ (m : ℕ). ltb m 2 ≡ true) k.0 (flag_lt b))
+    (λ lt. done_laid (eqb n 1) (flag_back n lt, tt) (λ b k. flag_is b ∙ ap (λ (m : ℕ). eqb m 1) k.0)))) in
     spelled_as boolean (fits_as Always law (λ b k f. tt) (λ b k f. (let lt : cond b 1 0 < 2 = ltb-true _ _ (flag_lt b) in omega (arith, lt), tt))) (λ b k f. append-nil (boolean b))
 
 -- an id behind its length
@@ -172,7 +172,7 @@ pub id_laid : IsLayout Anything Always (λ n. n < 256 ^ 16) id id_at
 unfolding id_at
 id_laid =
     let law = placed (λ place. seq {Known = Always} {t = number 16} (λ n. 16) (number_laid 1) (λ len lt.
-        tested (eqb len 16) place BadValue (λ n k f. eq-eqb len 16 (sym k.0)) (λ same. laid_as _ _ (number_laid 16) (λ n k f. ((sym (eqb-true len 16 same), tt), f)) (λ n k f. (tt, f))))) in
+    tested (eqb len 16) place BadValue (λ n k f. eq-eqb len 16 (sym k.0)) (λ same. laid_as _ _ (number_laid 16) (λ n k f. ((sym (eqb-true len 16 same), tt), f)) (λ n k f. (tt, f))))) in
     fits_as _ law (λ n k f. f.1) (λ n k f. (lit< tt, f))
 
 -- one number and no other
@@ -187,6 +187,6 @@ pub limited_laid : (n limit : ℕ) → IsLayout Anything Always (λ x. (x < 256 
 unfolding limited_at
 limited_laid n limit =
     let law = placed (λ place. seq {Known = Always} {Fits = λ x. x ≤ limit} (λ x. x) (number_laid n) (λ x _.
-        tested (leb x limit) place TooLarge (λ y k f. let le : x ≤ limit = omega (arith, k.0, f) in le-leb x limit le)
-        (λ within. fits_as _ (done_laid x (refl, tt) (λ z k. k.0)) (λ y k f. let le = leb-true x limit within in omega (arith, k.0, le)) (λ y k f. tt)))) in
+    tested (leb x limit) place TooLarge (λ y k f. let le : x ≤ limit = omega (arith, k.0, f) in le-leb x limit le)
+    (λ within. fits_as _ (done_laid x (refl, tt) (λ z k. k.0)) (λ y k f. let le = leb-true x limit within in omega (arith, k.0, le)) (λ y k f. tt)))) in
     spelled_as (number n) law (λ x k f. append-nil (number n x))

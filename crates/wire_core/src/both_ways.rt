@@ -11,5 +11,4 @@ pub fn words_are_layouts()
     ensures ids { IsLayout Anything Always (λ n. n < 256 ^ 16) id id_at }
     ensures vectors { (n : ℕ) → IsLayout Anything Always (λ bytes. (length bytes < 256 ^ n) × AreBytes bytes)
         (vector n) (vector_at n rest_at) }
-{
-}
+{}

@@ -11,6 +11,13 @@ pub use bad::{Bad, DecodeFault, Reason, allowed};
 pub use both_ways::words_are_layouts;
 pub use cursor::Cursor;
 pub use layout::{
-    Layout, list_fits, list_len, put_list, put_vector, take_bytes, take_filled, take_list, take_vector,
+    Layout, list_fits, list_len, put_list, put_vector, take_bytes, take_filled, take_list,
+    take_vector,
 };
-pub use put::{put_boolean, put_bytes, put_id, put_length, put_u8, put_u16, put_u24, put_u32, put_u64, put_u128};
+pub use put::{
+    put_boolean, put_bytes, put_id, put_length, put_u8, put_u16, put_u24, put_u32, put_u64,
+    put_u128,
+};
+
+#[cfg(test)]
+mod tests;
