@@ -56,6 +56,10 @@ impl Config {
     pub fn kind(&self, id: u32) -> Option<KindDef>
         ensures { result ≡ kind_of self.now id }
     {
-        self.kinds.as_slice().iter().copied().find(|kind| kind.id == id)
+        self.kinds
+            .as_slice()
+            .iter()
+            .copied()
+            .find(|kind| kind.id == id)
     }
 }

@@ -88,3 +88,13 @@ IsToldBy told written written' line status = (status ≡ told) × Appends writte
 -- the text of a scenario, of at most 16,777,216 bytes, is run to its end, unless memory is missing or a fault is met
 abbrev pub Completes : List (String Global) → Option (List ℕ) → Status → Type 0
 Completes words left status = IsRun words → IfSome left (λ text. (length text ≤ most_bytes) → (s : Scenario) → IsTextOf text s → (status ≡ Done) ⊎ ((status ≡ NoMemory) ⊎ ((status ≡ ReadFault) ⊎ (status ≡ WriteFault))))
+
+-- the exit status of a program that ends so (this profile)
+abbrev pub exit_status : Status → ℕ
+exit_status Done = 0
+exit_status Usage = 2
+exit_status ReadFault = 3
+exit_status WriteFault = 4
+exit_status NoMemory = 5
+exit_status BadLine = 6
+exit_status TooLong = 7

@@ -20,8 +20,13 @@ pub enum Status {
 }
 
 impl Status {
+    ghost use Rattle.std.specs.Prelude.{◌≡◌};
+    ghost use Rattle.overlay_command.specs.Top.{exit_status};
+
     /// The exit status of a program that ends so.
-    pub fn code(self) -> u8 {
+    pub fn code(self) -> u8
+        ensures { result ≡ exit_status self }
+    {
         match self {
             Status::Done => 0,
             Status::Usage => 2,
