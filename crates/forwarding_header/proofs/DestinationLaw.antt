@@ -1,10 +1,8 @@
 -- A destination is read as it is spelled.
-use Rattle.std.proofs.Common.{◌≡◌, ℕ, ◌+◌, ◌*◌, ◌/◌, ◌%◌, ◌^◌, ◌<◌, ◌≤◌, Bool, true, false, eqb, leb, List, [], ◌∷◌, ◌++◌, length, refl, sym, ap, ◌∙◌, length-append, lit<, eq-eqb, arith}
+use Rattle.std.proofs.Common.{◌≡◌, ℕ, ◌+◌, ◌*◌, ◌/◌, ◌%◌, ◌^◌, ◌<◌, ◌≤◌, true, false, eqb, leb, List, [], ◌∷◌, ◌++◌, length, refl, sym, ap, ◌∙◌, length-append, lit<, arith}
 use Rattle.std.proofs.lemmas.Bool.{leb-true, leb-false, eqb-true, eqb-false}
-use Rattle.wire_core.specs.declared.bad.Reason.TheVariants.{BadValue}
-use Rattle.wire_core.specs.Part.{Part, part}
 use Rattle.wire_core.specs.Spelling.{AreBytes, number, vector, id}
-use Rattle.wire_core.specs.Reading.{Reader, left_at, rest_at, allowed, ◌>>=◌, ◌>>◌}
+use Rattle.wire_core.specs.Reading.{Reader}
 use Rattle.wire_core.proofs.Bytes.{length-number}
 use Rattle.wire_core.specs.Layout.{Anything, Nothing, Always, IsLayout}
 use Rattle.wire_core.proofs.Laws.{seq, laid_as, fits_as, spelled_as, at_end, placed, chosen, refused_laid, made}

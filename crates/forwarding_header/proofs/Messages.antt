@@ -1,11 +1,11 @@
 -- Whole messages and their headers.
-use Rattle.std.proofs.Common.{◌≡◌, ℕ, ◌+◌, ◌^◌, ◌<◌, ◌≤◌, List, [], ◌∷◌, ◌++◌, length, take, drop, Result, Ok, Err, refl, sym, ap, subst, ◌∙◌, append_assoc, length-append, lit<, arith}
+use Rattle.std.proofs.Common.{◌≡◌, ℕ, ◌+◌, ◌^◌, ◌<◌, ◌≤◌, List, [], ◌++◌, length, Result, Ok, Err, sym, ap, subst, ◌∙◌, append_assoc, length-append, lit<, arith}
 use Rattle.std.specs.Prelude.{IfOk}
 use Rattle.std.proofs.lemmas.List.{append-nil, nil_from_length}
 use Rattle.wire_core.specs.declared.bad.Bad.{Bad}
 use Rattle.wire_core.specs.declared.bad.DecodeFault.{DecodeFault}
 use Rattle.wire_core.specs.Part.{Part, part}
-use Rattle.wire_core.specs.Spelling.{AreBytes, number, joined}
+use Rattle.wire_core.specs.Spelling.{AreBytes, number}
 use Rattle.wire_core.specs.Reading.{Gives}
 use Rattle.wire_core.proofs.Bytes.{number-in_front}
 use Rattle.wire_core.proofs.Laws.{ok_is}
@@ -64,7 +64,7 @@ one_message g h x y z m n e =
     let r = m.begins.0 in
     let t = n.begins.0 in
     let front : fixed g ++ (lists g ++ (r ++ z)) ≡ fixed h ++ (lists h ++ t) =
-        sym (append_assoc (fixed g) (lists g) (r ++ z)) ∙ sym (append_assoc (header g) r z) ∙ ap (λ (b : List ℕ). b ++ z) (sym m.begins.1) ∙ e ∙ n.begins.1 ∙ append_assoc (fixed h) (lists h) t in
+    sym (append_assoc (fixed g) (lists g) (r ++ z)) ∙ sym (append_assoc (header g) r z) ∙ ap (λ (b : List ℕ). b ++ z) (sym m.begins.1) ∙ e ∙ n.begins.1 ∙ append_assoc (fixed h) (lists h) t in
     let len = same_length g h (lists g ++ (r ++ z)) (lists h ++ t) m.in_range n.in_range m.within n.within front in
     let none : z ≡ [] = nil_from_length z (omega (arith, len, m.length_is, n.length_is, length-append x z, ap length e)) in
     let same : x ≡ y = sym (append-nil x) ∙ ap (λ (b : List ℕ). x ++ b) (sym none) ∙ e in

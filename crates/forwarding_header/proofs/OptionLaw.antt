@@ -1,10 +1,8 @@
 -- A forwarding option is read as it is spelled.
-use Rattle.std.proofs.Common.{◌≡◌, ℕ, ◌^◌, ◌<◌, List, [], length, refl, length-append, arith}
-use Rattle.wire_core.specs.Part.{Part}
-use Rattle.wire_core.specs.Spelling.{number, vector}
+use Rattle.std.proofs.Common.{◌≡◌, ℕ, ◌<◌, length, refl, length-append, arith}
 use Rattle.wire_core.proofs.Bytes.{length-number}
 use Rattle.wire_core.specs.Layout.{Anything, Always, IsLayout}
-use Rattle.wire_core.proofs.Laws.{seq, done_laid, laid_as, fits_as}
+use Rattle.wire_core.proofs.Laws.{seq, done_laid, fits_as}
 use Rattle.wire_core.proofs.Words.{number_laid, vector_laid, rest_laid}
 use Rattle.forwarding_header.specs.declared.forwarding_option.ForwardingOption.{ForwardingOption}
 use Rattle.forwarding_header.specs.Options.{option, option_at, IsSpelledOption, IsOptionInRange}
@@ -16,7 +14,7 @@ pub option_laid : IsLayout Anything Always (λ o. IsSpelledOption o × IsOptionI
 unfolding option option_at
 option_laid =
     fits_as _ (seq {Known = Always} (λ o. o.code) (number_laid 1) (λ code _. seq (λ o. o.flags) (number_laid 1) (λ flags _. seq (λ o. o.value) (vector_laid 2 rest_laid) (λ value _.
-        done_laid (record { code = code; flags = flags; value = value }) (refl, (refl, (refl, tt))) (λ o k. same_option o _ k.1.1.0 k.1.0 k.0)))))
+    done_laid (record { code = code; flags = flags; value = value }) (refl, (refl, (refl, tt))) (λ o k. same_option o _ k.1.1.0 k.1.0 k.0)))))
     (λ o k f. (f.1.1.0.0, record { code = f.0; flags = f.1.0; value = f.1.1.0.1 }))
     (λ o k f. (f.1.code, (f.1.flags, ((f.0, f.1.value), tt))))
 

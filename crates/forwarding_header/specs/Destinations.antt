@@ -1,8 +1,6 @@
 -- Destinations: their spelling, and how they are read.
-use Rattle.std.specs.Prelude.{ℕ, ◌+◌, ◌*◌, ◌<◌, ◌≤◌, ◌^◌, ◌==◌, List, [], ◌∷◌, ◌++◌, length, Bool, nat_le, if◌then◌else◌}
+use Rattle.std.specs.Prelude.{ℕ, ◌+◌, ◌*◌, ◌<◌, ◌≤◌, ◌^◌, ◌==◌, List, ◌++◌, length, nat_le, if◌then◌else◌}
 use Rattle.std.specs.List.{flat_map}
-use Rattle.reload_ids.specs.declared.NodeId.{NodeId}
-use Rattle.reload_ids.specs.declared.ResourceId.{ResourceId}
 use Rattle.wire_core.specs.declared.bad.Reason.TheVariants.{BadValue}
 use Rattle.wire_core.specs.Spelling.{AreBytes, number, vector, id}
 use Rattle.wire_core.specs.Reading.{Reader, ◌>>=◌, ◌>>◌, done, refused, allowed, place_at, left_at, rest_at, number_at, vector_at, sized_at, id_at}

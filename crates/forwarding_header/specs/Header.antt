@@ -1,7 +1,7 @@
 -- The forwarding header: its spelling, and how it is read (RFC 6940, 6.3.2).
 use Rattle.std.specs.Prelude.{◌≡◌, ℕ, ◌<◌, ◌≤◌, ◌^◌, List, [], ◌∷◌, ◌++◌, length, All, Result, Ok, Err, nat_le}
 use Rattle.wire_core.specs.declared.bad.Bad.{Bad}
-use Rattle.wire_core.specs.declared.bad.Reason.TheVariants.{LengthPast, Trailing, TooLarge}
+use Rattle.wire_core.specs.declared.bad.Reason.TheVariants.{LengthPast, Trailing}
 use Rattle.wire_core.specs.Part.{Part}
 use Rattle.wire_core.specs.Spelling.{number, joined}
 use Rattle.wire_core.specs.Reading.{Reader, ◌>>=◌, ◌>>◌, done, allowed, place_at, number_at, exact_at, limited_at, filled_at, list_at}

@@ -36,12 +36,10 @@ pub fn decode_header(alloc: Global, message: &[u8]) -> Result<(Header, usize), D
 /// No message is a front of another, and each message has one header.
 pub fn one_form()
     ensures { (g h : Header) (x y z : List ℕ) → IsMessage g x → IsMessage h y → x ++ z ≡ y → (z ≡ []) × (g ≡ h) }
-{
-}
+{}
 
 /// Destinations and options are read as they are spelled, and nothing else is.
 pub fn entries_are_layouts()
     ensures destinations { IsLayout Anything Always (λ d. IsSpelledDestination d × IsDestinationInRange d) destination destination_at }
     ensures options { IsLayout Anything Always (λ o. IsSpelledOption o × IsOptionInRange o) option option_at }
-{
-}
+{}

@@ -8,8 +8,7 @@ use reload_base::{Bytes, NoMemory, TryCopy};
 use reload_ids::{NodeId, ResourceId};
 use std::alloc::Global;
 use wire_core::{
-    Bad, Cursor, DecodeFault, Layout, Reason, allowed, put_bytes, put_id, put_u8, put_u16,
-    put_u128,
+    Bad, Cursor, DecodeFault, Layout, Reason, allowed, put_bytes, put_id, put_u8, put_u16, put_u128,
 };
 
 /// An entry of a via list or a destination list (RFC 6940, section 6.3.2.2).

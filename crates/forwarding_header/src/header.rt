@@ -88,11 +88,7 @@ fn take_fixed(alloc: Global, from: &mut Cursor<'_>, end: u64) -> Result<Header, 
 
 /// The three lists of a header whose other fields were read.
 #[tactic(auto, unfolding(crate::specs::Header::lists_at))]
-fn take_lists(
-    alloc: Global,
-    from: &mut Cursor<'_>,
-    fixed: Header,
-) -> Result<Header, DecodeFault>
+fn take_lists(alloc: Global, from: &mut Cursor<'_>, fixed: Header) -> Result<Header, DecodeFault>
     ensures { Decodes result from.new (lists_at fixed from.old) }
 {
     let via_place = from.place();
@@ -113,7 +109,11 @@ fn take_lists(
 }
 
 #[tactic(auto, unfolding(crate::specs::Header::header_at))]
-pub(crate) fn take_header(alloc: Global, from: &mut Cursor<'_>, end: u64) -> Result<Header, DecodeFault>
+pub(crate) fn take_header(
+    alloc: Global,
+    from: &mut Cursor<'_>,
+    end: u64,
+) -> Result<Header, DecodeFault>
     ensures { Decodes result from.new (header_at end from.old) }
 {
     let fixed = take_fixed(alloc, from, end)?;

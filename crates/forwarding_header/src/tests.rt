@@ -97,14 +97,39 @@ fn entries_of_lists(rt: HostRuntime) -> Result<(), Fail> {
         ([0, 1, 0, 0, 0, 0], &[1], 39, Reason::Short),
         ([0, 2, 0, 0, 0, 0], &[1, 15], 39, Reason::BadValue),
         ([0, 2, 0, 0, 0, 0], &[1, 17], 39, Reason::BadValue),
-        ([0, 17, 0, 0, 0, 0], &[1, 15, 0, 0, 0, 0, 0, 0, 0, 0, 0, 0, 0, 0, 0, 0, 0], 39, Reason::BadValue),
-        ([0, 17, 0, 0, 0, 0], &[1, 16, 0, 0, 0, 0, 0, 0, 0, 0, 0, 0, 0, 0, 0, 0, 0], 39, Reason::LengthPast),
-        ([0, 19, 0, 0, 0, 0], &[1, 17, 0, 0, 0, 0, 0, 0, 0, 0, 0, 0, 0, 0, 0, 0, 0, 0, 0], 39, Reason::BadValue),
-        ([0, 19, 0, 0, 0, 0], &[1, 16, 0, 0, 0, 0, 0, 0, 0, 0, 0, 0, 0, 0, 0, 0, 0, 0, 0], 56, Reason::BadValue),
+        (
+            [0, 17, 0, 0, 0, 0],
+            &[1, 15, 0, 0, 0, 0, 0, 0, 0, 0, 0, 0, 0, 0, 0, 0, 0],
+            39,
+            Reason::BadValue,
+        ),
+        (
+            [0, 17, 0, 0, 0, 0],
+            &[1, 16, 0, 0, 0, 0, 0, 0, 0, 0, 0, 0, 0, 0, 0, 0, 0],
+            39,
+            Reason::LengthPast,
+        ),
+        (
+            [0, 19, 0, 0, 0, 0],
+            &[1, 17, 0, 0, 0, 0, 0, 0, 0, 0, 0, 0, 0, 0, 0, 0, 0, 0, 0],
+            39,
+            Reason::BadValue,
+        ),
+        (
+            [0, 19, 0, 0, 0, 0],
+            &[1, 16, 0, 0, 0, 0, 0, 0, 0, 0, 0, 0, 0, 0, 0, 0, 0, 0, 0],
+            56,
+            Reason::BadValue,
+        ),
         ([0, 2, 0, 0, 0, 0], &[2, 16], 39, Reason::BadValue),
         ([0, 2, 0, 0, 0, 0], &[2, 18], 39, Reason::BadValue),
         ([0, 3, 0, 0, 0, 0], &[2, 17, 16], 39, Reason::LengthPast),
-        ([0, 19, 0, 0, 0, 0], &[2, 17, 15, 0, 0, 0, 0, 0, 0, 0, 0, 0, 0, 0, 0, 0, 0, 0, 0], 40, Reason::BadValue),
+        (
+            [0, 19, 0, 0, 0, 0],
+            &[2, 17, 15, 0, 0, 0, 0, 0, 0, 0, 0, 0, 0, 0, 0, 0, 0, 0, 0],
+            40,
+            Reason::BadValue,
+        ),
         ([0, 2, 0, 0, 0, 0], &[3, 0], 40, Reason::Short),
         ([0, 4, 0, 0, 0, 0], &[3, 2, 0, 9], 40, Reason::BadValue),
         ([0, 4, 0, 0, 0, 0], &[3, 2, 2, 9], 40, Reason::BadValue),
@@ -165,9 +190,14 @@ fn a_header_there_and_back(rt: HostRuntime) -> Result<(), Fail> {
 
     let mut message = FULL.to_vec(rt.alloc())?;
     message.extend_from_slice(&[0xee, 0xee])?;
-    let (read, place) = decode_header(rt.alloc(), &message).ok().ok_or("it is spelled")?;
+    let (read, place) = decode_header(rt.alloc(), &message)
+        .ok()
+        .ok_or("it is spelled")?;
     assert_eq!(rt; place, 95);
-    assert_eq!(rt; format!(in rt.alloc(); "{read:?}")?, format!(in rt.alloc(); "{header:?}")?);
+    assert_eq!(rt;
+        format!(in rt.alloc(); "{read:?}")?,
+        format!(in rt.alloc(); "{header:?}")?
+    );
     Ok(())
 }
 

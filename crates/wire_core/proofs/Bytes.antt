@@ -4,7 +4,7 @@ use Rattle.std.proofs.lemmas.Bool.{cases_lt}
 use Rattle.std.proofs.lemmas.List.{append-nil, length-append, length-take, get_or-take, get_or-drop, get_or_past, take_at, drop_at}
 use Rattle.std.proofs.lemmas.Nat.{same_from_place}
 use Rattle.std.specs.Int.{byte_at, bytes_high_first}
-use Rattle.byteorder.specs.Endian.{big_bytes, big_from, big_number}
+use Rattle.byteorder.specs.Endian.{big_from, big_number}
 use Rattle.byteorder.specs.Numbers.{big_from-cons, big_from-lt, big_number-reads_back, length-bytes_high_first}
 use Rattle.wire_core.specs.Spelling.{AreBytes, number}
 

@@ -1,11 +1,11 @@
 -- Reading the entries of a list one after the other, as a loop does.
-use Rattle.std.proofs.Common.{◌≡◌, ℕ, zero, suc, ◌-◌, ◌+◌, ◌≤◌, ◌<◌, Bool, true, false, eqb, List, [], ◌∷◌, ◌++◌, length, Result, Ok, Err, refl, sym, ap, ◌∙◌, append_assoc, arith}
+use Rattle.std.proofs.Common.{◌≡◌, ℕ, zero, suc, ◌-◌, ◌+◌, ◌≤◌, ◌<◌, true, false, eqb, List, [], ◌∷◌, ◌++◌, length, Result, Ok, Err, refl, sym, ap, ◌∙◌, append_assoc, arith}
 use Rattle.std.proofs.lemmas.List.{append-nil}
 use Rattle.wire_core.specs.declared.bad.Bad.{Bad}
 use Rattle.wire_core.specs.declared.bad.DecodeFault.{DecodeFault}
 use Rattle.wire_core.specs.declared.bad.DecodeFault.TheVariants as faults
 use Rattle.wire_core.specs.Part.{Part}
-use Rattle.wire_core.specs.Reading.{Reader, and_then, ◌>>=◌, done, entries_at, Decodes}
+use Rattle.wire_core.specs.Reading.{Reader, and_then, done, entries_at, Decodes}
 
 -- what was read before, and what is still read
 abbrev pub with_front : {A : Type 0} → List A → Result (List A × Part) Bad → Result (List A × Part) Bad

@@ -1,17 +1,12 @@
 -- A reader and a spelling that say the same: what is read is spelled so, and what is spelled so is read.
-use Rattle.std.proofs.Common.{◌≡◌, ℕ, zero, suc, ◌+◌, ◌^◌, ◌<◌, ◌≤◌, Bool, true, false, cond, eqb, ltb, List, [], ◌∷◌, ◌++◌, length, take, drop, Result, Ok, Err, refl, sym, ap, subst, ◌∙◌, append_assoc, length-append, lit<, eq-eqb, arith}
-use Rattle.std.specs.List.{flat_map, AllByRecursion}
-use Rattle.std.proofs.lemmas.Bool.{ltb-false, ltb-true, le-ltb, eqb-true}
-use Rattle.std.proofs.lemmas.List.{append-nil, length-take, take_at, drop_at, take-append-drop, nil_from_length}
-use Rattle.byteorder.specs.Endian.{big_number}
+use Rattle.std.proofs.Common.{◌≡◌, ℕ, ◌+◌, Bool, true, false, cond, List, [], ◌++◌, length, Result, Ok, Err, refl, sym, ap, subst, ◌∙◌, append_assoc, length-append, arith}
 use Rattle.wire_core.specs.declared.bad.Bad.{Bad}
 use Rattle.wire_core.specs.declared.bad.Reason.{Reason}
-use Rattle.wire_core.specs.declared.bad.Reason.TheVariants.{BadValue, Trailing}
-use Rattle.wire_core.specs.Part.{Part, part, behind}
-use Rattle.wire_core.specs.Spelling.{AreBytes, number, boolean, vector, id}
+use Rattle.wire_core.specs.Part.{Part, part}
+use Rattle.wire_core.specs.Spelling.{AreBytes}
 use Rattle.wire_core.specs.Layout.{Follows, Anything, Nothing, Always, IsLayout}
-use Rattle.wire_core.specs.Reading.{Reader, and_then, ◌>>=◌, done, refused, allowed, place_at, ended, rest_at, bytes_at, number_at, boolean_at, stretch_at, part_at, inside, vector_at, sized_part_at, sized_at, id_at, entries_at, list_at}
-use Rattle.wire_core.proofs.Bytes.{AreBytes-behind, AreBytes-take, length-number, AreBytes-number, number-big_number, big_number-number, big_number-lt}
+use Rattle.wire_core.specs.Reading.{Reader, and_then, done, refused, allowed, place_at}
+use Rattle.wire_core.proofs.Bytes.{AreBytes-behind}
 
 -- a step that didn't fail
 pub then_ok : {A B : Type 0} (r : Result (A × Part) Bad) (next : A → Reader B) (y : B × Part) → and_then r next ≡ Ok y → (x : A) × (m : Part) × (r ≡ Ok (x, m)) × (next x m ≡ Ok y)

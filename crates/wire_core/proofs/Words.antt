@@ -1,17 +1,16 @@
 -- The words of the wire, each in both directions.
-use Rattle.std.proofs.Common.{◌≡◌, ℕ, zero, suc, ◌+◌, ◌^◌, ◌<◌, ◌≤◌, Bool, true, false, cond, eqb, ltb, leb, List, [], ◌∷◌, ◌++◌, length, take, drop, Result, Ok, Err, refl, sym, ap, subst, ◌∙◌, length-append, lit<, eq-eqb, arith}
+use Rattle.std.proofs.Common.{◌≡◌, ℕ, zero, suc, ◌+◌, ◌^◌, ◌<◌, ◌≤◌, Bool, true, false, cond, eqb, ltb, leb, List, [], ◌++◌, length, take, Result, Ok, Err, refl, sym, ap, subst, ◌∙◌, length-append, lit<, eq-eqb, arith}
 use Rattle.std.proofs.lemmas.Bool.{ltb-false, ltb-true, le-ltb, leb-true, le-leb, eqb-true}
 use Rattle.std.proofs.lemmas.List.{append-nil, length-take, take_at, drop_at, take-append-drop, nil_from_length}
 use Rattle.byteorder.specs.Endian.{big_number}
 use Rattle.wire_core.specs.declared.bad.Bad.{Bad}
-use Rattle.wire_core.specs.declared.bad.Reason.{Reason}
 use Rattle.wire_core.specs.declared.bad.Reason.TheVariants.{BadValue, Trailing, TooLarge}
 use Rattle.wire_core.specs.Part.{Part, part, behind}
 use Rattle.wire_core.specs.Spelling.{AreBytes, number, boolean, vector, id}
 use Rattle.wire_core.specs.Layout.{Follows, Anything, Nothing, Always, IsLayout}
-use Rattle.wire_core.specs.Reading.{Reader, and_then, ◌>>=◌, done, refused, allowed, place_at, ended, rest_at, bytes_at, number_at, boolean_at, exact_at, limited_at, stretch_at, part_at, sized_part_at, filled_at, inside, vector_at, sized_at, id_at}
+use Rattle.wire_core.specs.Reading.{Reader, and_then, done, refused, allowed, place_at, ended, rest_at, bytes_at, number_at, boolean_at, exact_at, limited_at, stretch_at, part_at, sized_part_at, filled_at, inside, vector_at, sized_at, id_at}
 use Rattle.wire_core.proofs.Bytes.{AreBytes-take, length-number, AreBytes-number, number-big_number, big_number-number, big_number-lt}
-use Rattle.wire_core.proofs.Laws.{then_ok, ok_is, seq, done_laid, laid_as, fits_as, read_as, spelled_as, at_end, placed, tested, tested_last, made}
+use Rattle.wire_core.proofs.Laws.{then_ok, ok_is, seq, done_laid, laid_as, fits_as, read_as, spelled_as, placed, tested, tested_last, made}
 
 -- a test that was passed
 pub guard_ok : {A : Type 0} (b : Bool) (bad : Bad) (x y : A) → cond b (Err bad) (Ok x) ≡ Ok y → (b ≡ false) × (x ≡ y)

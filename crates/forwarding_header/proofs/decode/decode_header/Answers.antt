@@ -1,4 +1,4 @@
-use Rattle.std.proofs.Common.{sym, subst, arith}
+use Rattle.std.proofs.Common.{subst, arith}
 use Rattle.wire_core.specs.Reading.{Gives}
 use Rattle.forwarding_header.proofs.Messages.{message_again, is_found}
 use Rattle.forwarding_header.proofs.decode.decode_header.Goals as goal
