@@ -1,0 +1,160 @@
+use crate::calls::{DECLARATIONS, joined, repeated, run_of};
+use overlay_command::Status;
+use reload_base::{Bytes, NoMemory};
+use std::alloc::Global;
+use std::process::Abort;
+use std::test::Fail;
+
+// A scenario, line by line.
+const LINES: [&str; 7] = [
+    "overlay abc",
+    "kind 256 single user-match 1 140000 0",
+    "peer 1 80000000000000000000000000000000 p",
+    "client 2 40000000000000000000000000000000 abc",
+    "store 2 1 @abc kind=256/0 -:5000:60:+6869",
+    "deliver 1",
+    "store 2 1 @abc kind=256/0 -:6000:60:+6869",
+];
+
+// The scenario with another text as its line n, counted from 1.
+fn with_line(alloc: Global, n: usize, text: &str) -> Result<Bytes, NoMemory> {
+    let mut whole = Bytes::new(alloc);
+    for (i, line) in LINES.iter().enumerate() {
+        let line = if i + 1 == n { text } else { *line };
+        whole.extend(line.as_bytes())?;
+        whole.extend(b"\n")?;
+    }
+    Ok(whole)
+}
+
+// That line n is the first bad one, and nothing else is written.
+fn assert_bad(rt: &(impl Abort + AllocGlobal), text: &[u8], n: usize) -> Result<(), Fail> {
+    let (status, written) = run_of(rt.alloc(), text)?;
+    assert_eq!(rt; status, Status::BadLine, "of {text:?}");
+    let line = format!(in rt.alloc(); "bad line {n}\n")?;
+    assert_eq!(rt; written.as_slice(), line.as_bytes(), "of {text:?}");
+    Ok(())
+}
+
+#[test]
+fn declarations_outside_the_grammar(rt: HostRuntime) -> Result<(), Fail> {
+    let cases = [
+        (1, "overlay  abc"),
+        (1, "overlay a\x7fb"),
+        (1, "# an overlay\u{e9}"),
+        (2, "kind 256 single user-match 1 0 0"),
+        (2, "kind 256 single user-match 1 140001 0"),
+        (2, "kind 0256 single user-match 1 140000 0"),
+        (3, "peer 1 00000000000000000000000000000000 p"),
+        (3, "peer 1 ffffffffffffffffffffffffffffffff p"),
+        (3, "peer 10000 80000000000000000000000000000000 p"),
+        (4, "client 1 40000000000000000000000000000000 abc"),
+        (4, "client 2 80000000000000000000000000000000 abc"),
+        (4, "client 2 A0000000000000000000000000000000 abc"),
+        (4, "client 2 4000000000000000000000000000000 abc"),
+    ];
+    for (n, line) in cases {
+        let text = with_line(rt.alloc(), n, line)?;
+        assert_bad(&rt, text.as_slice(), n)?;
+    }
+    Ok(())
+}
+
+#[test]
+fn events_outside_the_grammar(rt: HostRuntime) -> Result<(), Fail> {
+    let cases = [
+        (5, "store  2 1 @abc kind=256/0 -:5000:60:+6869"),
+        (5, "store 2 1 @abc kind=256/0 -:05000:60:+6869"),
+        (
+            5,
+            "store 2 1 @abc kind=256/0 -:18446744073709551616:60:+6869",
+        ),
+        (5, "store 2 1 @abc kind=256/0 -:5000:4294967296:+6869"),
+        (5, "store 2 1 @abc kind=256/0 -:5000:60:+686A"),
+        (5, "store 2 1 @abc kind=256/0 -:5000:60:+686"),
+        (5, "store 2 1 @abc kind=256/0 -:5000:60:-"),
+        (5, "store 2 1 @abc kind=257/0 -:5000:60:+6869"),
+        (5, "store 2 1 @abd kind=256/0 -:5000:60:+6869"),
+        (5, "store 3 1 @abc kind=256/0 -:5000:60:+6869"),
+        (5, "store 2 3 @abc kind=256/0 -:5000:60:+6869"),
+        (5, " "),
+        (6, "deliver 0"),
+        (6, "deliver 01"),
+        (6, "deliver 2"),
+        (6, "fetch 2 1 @abc 256"),
+    ];
+    for (n, line) in cases {
+        let text = with_line(rt.alloc(), n, line)?;
+        assert_bad(&rt, text.as_slice(), n)?;
+    }
+    Ok(())
+}
+
+#[test]
+fn the_first_bad_line_of_a_text(rt: HostRuntime) -> Result<(), Fail> {
+    let cases: [(&[&str], usize); 9] = [
+        (&[""], 1),
+        (&["\n"], 2),
+        (&["overlay abc"], 1),
+        (&["overlay abc\nkind\npeer\n"], 2),
+        (
+            &[
+                DECLARATIONS,
+                "client 3 30000000000000000000000000000000 abc\n",
+            ],
+            5,
+        ),
+        (&[DECLARATIONS, "# no line feed"], 5),
+        (
+            &["# a comment\x7f\n\n", DECLARATIONS, "\n#\ndeliver 1\n"],
+            9,
+        ),
+        (
+            &[
+                "overlay abc\nkind 256 single user-match 1 2 0\n",
+                "peer 1 80000000000000000000000000000000 p\nclient 2 40000000000000000000000000000000 abc\n",
+                "store 2 1 @abc kind=256/0 -:5000:60:+6869\nstore 2 1 @abc kind=256/0 -:5000:60:+686970\n",
+            ],
+            6,
+        ),
+        (
+            &[
+                "overlay abc\nkind 256 single user-match 1 2 0\npeer 1 80000000000000000000000000000000 p\n",
+                "store 2 1 @abc kind=256/0 -:5000:60:+6869\n",
+            ],
+            4,
+        ),
+    ];
+    for (parts, n) in cases {
+        let text = joined(rt.alloc(), parts)?;
+        assert_bad(&rt, text.as_slice(), n)?;
+    }
+    Ok(())
+}
+
+// The declarations, and a line that ends with so many of a byte.
+fn with_long_line(alloc: Global, front: &str, byte: u8, count: usize) -> Result<Bytes, NoMemory> {
+    let mut text = joined(alloc, &[DECLARATIONS, front])?;
+    text.extend(repeated(alloc, byte, count)?.as_slice())?;
+    text.extend(b"\n")?;
+    Ok(text)
+}
+
+#[test]
+fn the_longest_value_and_line(rt: HostRuntime) -> Result<(), Fail> {
+    let cases = [
+        ("store 2 1 @abc kind=256/0 -:5000:60:+", b'0', 200, 202),
+        ("#", b'~', 399_999, 400_000),
+    ];
+    for (front, byte, most, over) in cases {
+        let text = with_long_line(rt.alloc(), front, byte, most)?;
+        assert_eq!(rt;
+            run_of(rt.alloc(), text.as_slice())?.0,
+            Status::Done,
+            "of {front}"
+        );
+        let text = with_long_line(rt.alloc(), front, byte, over)?;
+        assert_bad(&rt, text.as_slice(), 5)?;
+    }
+    Ok(())
+}

@@ -1,0 +1,13 @@
+//! Whole calls, whose transcripts and statuses were worked out apart from the program: tests alone.
+#![tactic(auto)]
+
+#[cfg(test)]
+mod bad_lines;
+#[cfg(test)]
+mod calls;
+#[cfg(test)]
+mod refusals;
+#[cfg(test)]
+mod resources;
+#[cfg(test)]
+mod rows;

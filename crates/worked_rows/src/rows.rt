@@ -1,0 +1,57 @@
+use crate::calls::{ACTS_ONCE, DECLARATIONS, THREE_DELIVERIES, joined, run_of};
+use overlay_command::Status;
+use std::test::Fail;
+
+// Two Stores of one time: the second is too old.
+const TWO_OF_ONE_TIME: &str = "store 2 1 @abc kind=256/0 -:5000:60:+6869\n\
+    store 2 1 @abc kind=256/0 -:5000:60:+6869\n\
+    deliver 1\n\
+    deliver 2\n";
+
+const SECOND_TOO_OLD: &str =
+    "decide 1 0 a9993e364706816aba3e25717850c26c store 2 2.1 kind=256/0 -:5000:60:+6869:2:96 -> ok 256:1\n\
+    answer 2.1 ok 256:1\n\
+    decide 1 0 a9993e364706816aba3e25717850c26c store 2 2.2 kind=256/0 -:5000:60:+6869:2:96 -> error 9\n\
+    answer 2.2 error 9\n\
+    end requests=2 decisions=2\n";
+
+// Stores that are delivered out of order, and one of them again after the others.
+const OUT_OF_ORDER: &str = "store 2 1 @abc kind=256/0 -:3:60:+03\n\
+    store 2 1 @abc kind=256/0 -:1:60:+01\n\
+    store 2 1 @abc kind=256/0 -:2:60:+02\n\
+    store 2 1 @abc kind=256/0 -:4:60:+04\n\
+    deliver 2\n\
+    deliver 1\n\
+    deliver 3\n\
+    deliver 4\n\
+    deliver 2\n";
+
+const KEPT_ANSWER_AGAIN: &str =
+    "decide 1 0 a9993e364706816aba3e25717850c26c store 2 2.2 kind=256/0 -:1:60:+01:2:95 -> ok 256:1\n\
+    answer 2.2 ok 256:1\n\
+    decide 1 0 a9993e364706816aba3e25717850c26c store 2 2.1 kind=256/0 -:3:60:+03:2:95 -> ok 256:2\n\
+    answer 2.1 ok 256:2\n\
+    decide 1 0 a9993e364706816aba3e25717850c26c store 2 2.3 kind=256/0 -:2:60:+02:2:95 -> error 9\n\
+    answer 2.3 error 9\n\
+    decide 1 0 a9993e364706816aba3e25717850c26c store 2 2.4 kind=256/0 -:4:60:+04:2:95 -> ok 256:3\n\
+    answer 2.4 ok 256:3\n\
+    decide 1 0 a9993e364706816aba3e25717850c26c store 2 2.2 kind=256/0 -:1:60:+01:2:95 -> ok 256:1\n\
+    end requests=4 decisions=5\n";
+
+#[test]
+fn scenarios_have_their_transcripts(rt: HostRuntime) -> Result<(), Fail> {
+    let rows = [
+        ("", "end requests=0 decisions=0\n"),
+        (THREE_DELIVERIES, ACTS_ONCE),
+        (TWO_OF_ONE_TIME, SECOND_TOO_OLD),
+        (OUT_OF_ORDER, KEPT_ANSWER_AGAIN),
+    ];
+    for (events, lines) in rows {
+        let text = joined(rt.alloc(), &[DECLARATIONS, events])?;
+        let transcript = joined(rt.alloc(), &[DECLARATIONS, lines])?;
+        let (status, written) = run_of(rt.alloc(), text.as_slice())?;
+        assert_eq!(rt; status, Status::Done, "of {events}");
+        assert_eq!(rt; written.as_slice(), transcript.as_slice(), "of {events}");
+    }
+    Ok(())
+}
