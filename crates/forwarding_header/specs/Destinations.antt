@@ -14,6 +14,7 @@ destination (Resource resource) = number 1 2 ++ (number 1 17 ++ id resource.0)
 destination (Opaque bytes) = number 1 3 ++ vector 1 (vector 1 bytes)
 destination (Short n) = number 2 n
 
+-- the destinations of a list, one after the other
 abbrev pub destinations : List Destination → List ℕ
 destinations ds = flat_map destination ds
 
@@ -40,16 +41,19 @@ opaque_bytes_at = do
   allowed (len == left) place BadValue
   rest_at
 
+-- a node behind its code: the length 16, and 16 bytes
 unfoldable pub node_at : Reader Destination
 node_at = do
   node ← sized_at 1 16 (number_at 16)
   done (Node (record { 0 = node }))
 
+-- a resource behind its code: the length 17, and an id behind its own length
 unfoldable pub resource_at : Reader Destination
 resource_at = do
   resource ← sized_at 1 17 id_at
   done (Resource (record { 0 = resource }))
 
+-- opaque bytes behind their code: a length that is one more than theirs
 unfoldable pub opaque_at : Reader Destination
 opaque_at = do
   bytes ← vector_at 1 opaque_bytes_at
@@ -67,6 +71,7 @@ destination_of place code =
     if nat_le 128 code then short_at code
     else (if code == 1 then node_at else (if code == 2 then resource_at else (if code == 3 then opaque_at else refused place BadValue)))
 
+-- a destination
 unfoldable pub destination_at : Reader Destination
 destination_at = do
   place ← place_at

@@ -48,6 +48,7 @@ message_length_at end = do
   allowed (nat_le end len) len Trailing
   done len
 
+-- the fields of fixed size, and no lists yet
 unfoldable pub fixed_at : ℕ → Reader Header
 fixed_at end = do
   exact_at 4 0xd2454c4f

@@ -9,12 +9,15 @@ use Rattle.forwarding_header.specs.declared.forwarding_option.ForwardingOption.{
 unfoldable pub option : ForwardingOption → List ℕ
 option o = joined (number 1 o.code ∷ number 1 o.flags ∷ vector 2 o.value ∷ [])
 
+-- the options of a list, one after the other
 abbrev pub options : List ForwardingOption → List ℕ
 options os = flat_map option os
 
+-- its value fits its length
 abbrev pub IsSpelledOption : ForwardingOption → Type 0
 IsSpelledOption o = length o.value < 2 ^ 16
 
+-- an option, whatever its code
 unfoldable pub option_at : Reader ForwardingOption
 option_at = do
   code ← number_at 1

@@ -35,7 +35,8 @@ pub fn decode_header(alloc: Global, message: &[u8]) -> Result<(Header, usize), D
 
 /// No message is a front of another, and each message has one header.
 pub fn one_form()
-    ensures { (g h : Header) (x y z : List ℕ) → IsMessage g x → IsMessage h y → x ++ z ≡ y → (z ≡ []) × (g ≡ h) }
+    ensures { (g h : Header) (x y z : List ℕ) →
+        IsMessage g x → IsMessage h y → x ++ z ≡ y → (z ≡ []) × (g ≡ h) }
 {}
 
 /// Destinations and options are read as they are spelled, and nothing else is.

@@ -28,8 +28,8 @@ const LIST_LIMIT: u32 = 4096;
 /// The most bytes that a message may have.
 const MESSAGE_LIMIT: u32 = 262_144;
 
-/// The forwarding header (RFC 6940, section 6.3.2). The token, the version and the fragment field are the same in
-/// each message of this profile.
+/// The forwarding header (RFC 6940, section 6.3.2). The token, the version and the fragment field are the same
+/// in each message of this profile.
 #[derive(Debug, Drop)]
 pub struct Header {
     pub overlay: u32,
@@ -120,8 +120,8 @@ pub(crate) fn take_header(
     take_lists(alloc, from, fixed)
 }
 
-/// Whether a header has a spelling: each of its lists spells at most 4,096 bytes, each entry fits its length, and
-/// each short destination has its top bit set.
+/// Whether a header has a spelling: each of its lists spells at most 4,096 bytes, each entry fits its length,
+/// and each short destination has its top bit set.
 pub fn fits(h: &Header) -> bool
     ensures { IsTrue result ↔ IsSpelledHeader h.now }
 {

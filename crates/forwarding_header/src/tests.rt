@@ -89,7 +89,7 @@ fn fields_of_fixed_size(rt: HostRuntime) -> Result<(), Fail> {
 
 #[test]
 fn entries_of_lists(rt: HostRuntime) -> Result<(), Fail> {
-    let cases: [([u8; 6], &[u8], u64, Reason); 25] = [
+    let cases: [([u8; 6], &[u8], u64, Reason); 32] = [
         ([0, 1, 0, 0, 0, 0], &[0], 38, Reason::BadValue),
         ([0, 1, 0, 0, 0, 0], &[4], 38, Reason::BadValue),
         ([0, 1, 0, 0, 0, 0], &[127], 38, Reason::BadValue),
@@ -136,6 +136,13 @@ fn entries_of_lists(rt: HostRuntime) -> Result<(), Fail> {
         ([0, 4, 0, 0, 0, 0], &[3, 3, 2, 9], 39, Reason::LengthPast),
         ([0, 0, 0, 1, 0, 0], &[4], 38, Reason::BadValue),
         ([0, 2, 0, 1, 0, 0], &[128, 1, 4], 40, Reason::BadValue),
+        ([0, 1, 0, 0, 0, 0], &[128, 1], 39, Reason::Short),
+        ([0, 3, 0, 0, 0, 0], &[128, 1], 32, Reason::LengthPast),
+        ([0, 0, 0, 1, 0, 0], &[128, 1], 39, Reason::Short),
+        ([0, 0, 0, 3, 0, 0], &[128, 1], 34, Reason::LengthPast),
+        ([0, 0, 0, 0, 0, 3], &[1, 7, 0, 0], 41, Reason::Short),
+        ([0, 0, 0, 0, 0, 5], &[1, 7, 0, 0], 36, Reason::LengthPast),
+        ([0, 0, 0, 0, 0, 6], &[1, 7, 0, 1, 9, 8], 44, Reason::Short),
         ([0, 0, 0, 0, 0, 1], &[1], 39, Reason::Short),
         ([0, 0, 0, 0, 0, 2], &[1, 7], 40, Reason::Short),
         ([0, 0, 0, 0, 0, 3], &[1, 7, 0], 41, Reason::Short),

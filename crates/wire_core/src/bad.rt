@@ -11,15 +11,15 @@ use reload_base::NoMemory;
 #[derive(Clone, Copy, Debug, PartialEq, Eq)]
 pub enum Reason {
     /// The enclosing part ends before the field does. The place is that part's end.
-    Short,
+    Short = 1,
     /// A length says more than is left in its part. The place is the length's first byte.
-    LengthPast,
+    LengthPast = 2,
     /// A field has a value that its layout doesn't allow. The place is the field's first byte.
-    BadValue,
+    BadValue = 3,
     /// Bytes are left in a part whose content is complete. The place is the first such byte.
-    Trailing,
+    Trailing = 4,
     /// A length passes a limit. The place is the length's first byte.
-    TooLarge,
+    TooLarge = 5,
 }
 
 /// The first fault of some bytes in the order of their layout.

@@ -9,6 +9,6 @@ pub fn words_are_layouts()
     ensures numbers { (n : ℕ) → IsLayout Anything Always (λ x. x < 256 ^ n) (number n) (number_at n) }
     ensures booleans { IsLayout Anything Always Always boolean boolean_at }
     ensures ids { IsLayout Anything Always (λ n. n < 256 ^ 16) id id_at }
-    ensures vectors { (n : ℕ) → IsLayout Anything Always (λ bytes. (length bytes < 256 ^ n) × AreBytes bytes)
-        (vector n) (vector_at n rest_at) }
+    ensures vectors { (n : ℕ) →
+        IsLayout Anything Always (λ bytes. (length bytes < 256 ^ n) × AreBytes bytes) (vector n) (vector_at n rest_at) }
 {}

@@ -42,7 +42,8 @@ pub trait Layout: Sized + Drop {
         ensures { OnOk result (out.new ≡ out.old ++ spelling self.now) };
 }
 
-/// Takes the structures that a part is full of. Each has a byte at least, so there are no more of them than bytes.
+/// Takes the structures that a part is full of. Each has a byte at least, so there are no more of them than
+/// bytes.
 #[tactic(auto, unfolding(crate::specs::Reading::list_at))]
 pub fn take_list<T: Layout>(alloc: Global, from: &mut Cursor<'_>) -> Result<List<T>, DecodeFault>
     ensures { Decodes result from.new (list_at T.reading from.old) }
@@ -57,8 +58,8 @@ pub fn take_list<T: Layout>(alloc: Global, from: &mut Cursor<'_>) -> Result<List
     Ok(list)
 }
 
-/// Takes the structures that the next `len` bytes are full of. Their length stands at `place`, where it is refused
-/// if fewer bytes are left.
+/// Takes the structures that the next `len` bytes are full of. Their length stands at `place`, where it is
+/// refused if fewer bytes are left.
 #[tactic(auto, unfolding(crate::specs::Reading::filled_at))]
 pub fn take_filled<T: Layout>(
     alloc: Global,
@@ -131,7 +132,8 @@ pub fn put_list<T: Layout>(out: &mut Bytes, list: &List<T>) -> Result<(), NoMemo
     Ok(())
 }
 
-/// Adds a vector of structures, whose length stands in `width` bytes. After `NoMemory` the bytes may have its front.
+/// Adds a vector of structures, whose length stands in `width` bytes. After `NoMemory` the bytes may have its
+/// front.
 pub fn put_vector<T: Layout>(out: &mut Bytes, width: u8, list: &List<T>) -> Result<(), NoMemory>
     requires low { 1 ≤ width }
     requires high { width ≤ 4 }

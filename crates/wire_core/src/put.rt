@@ -106,7 +106,8 @@ pub fn put_bytes(out: &mut Bytes, width: u8, bytes: &[u8]) -> Result<(), NoMemor
     out.extend(bytes)
 }
 
-/// Adds an id of 128 bits behind its length: the byte 16, and 16 bytes. After `NoMemory` the bytes may have its front.
+/// Adds an id of 128 bits behind its length: the byte 16, and 16 bytes. After `NoMemory` the bytes may have its
+/// front.
 pub fn put_id(out: &mut Bytes, v: u128) -> Result<(), NoMemory>
     ensures { OnOk result (out.new ≡ out.old ++ id v) }
 {
