@@ -2,7 +2,9 @@
 #![tactic(auto)]
 
 mod config;
+mod fetched;
 mod stored_data;
 
 pub use config::{Config, DataModel, KindDef};
+pub use fetched::{KindValues, Selector, Specifier, StoreKind};
 pub use stored_data::{SlotKey, StoredData};
