@@ -6,10 +6,10 @@ use Rattle.data_models.specs.declared.config.Config.{Config}
 use Rattle.storage_model.specs.declared.record.KindRecord.{KindRecord}
 use Rattle.storage_model.specs.declared.record.Record.{Record}
 use Rattle.storage_model.specs.declared.request.AskedKind.{AskedKind}
-use Rattle.storage_model.specs.declared.request.StoreAsked.{StoreAsked}
+use Rattle.storage_model.specs.declared.request.Asked.{Asked}
 use Rattle.storage_model.specs.Records.{Map, record_in, kind_in, generation_in}
 use Rattle.storage_model.specs.Verdict.{kind_after, put_kind, kinds_after, puts, swept}
-use Rattle.storage_model.specs.Decisions.{Decision, map_after, outcome_on}
+use Rattle.storage_model.specs.Decisions.{Decision, map_after, effect_on, kinds_of}
 use Rattle.storage_model.specs.Laws.{IsWithin}
 use Rattle.storage_model.proofs.Maps.{each_after}
 use Rattle.storage_model.proofs.Outcomes.{record_after, turn-record_after, kinds-record_after}
@@ -69,15 +69,15 @@ AreWithin-after n now asked kinds h =
     AreWithin-fold n now kinds h (filter puts asked) (map (swept now) (filter kept kinds)) (more n _ (AreWithin-swept n now (filter kept kinds) (AreWithin-filter n kept kinds h)))
 
 -- the record after a decision
-pub IsWithin-after : (config : Config) (now resource n : ℕ) (x : Record) (q : StoreAsked) → IsWithin n x → IsWithin (n + 1) (record_after config now resource x q)
-IsWithin-after config now resource n x q h = record {
-  turn = omega (arith, turn-record_after config now resource x q, h.turn);
-  generations = kinds-record_after (AreWithin (n + 1)) config now resource x q (more n x.kinds h.generations) (λ e. AreWithin-after n now q.kinds x.kinds h.generations);
+pub IsWithin-after : (config : Config) (now resource n : ℕ) (x : Record) (asked : Asked) → IsWithin n x → IsWithin (n + 1) (record_after config now resource x asked)
+IsWithin-after config now resource n x asked h = record {
+  turn = omega (arith, turn-record_after config now resource x asked, h.turn);
+  generations = kinds-record_after (AreWithin (n + 1)) config now resource x asked (more n x.kinds h.generations) (λ e. AreWithin-after n now (kinds_of asked) x.kinds h.generations);
 }
 
 -- the records of the map after a decision
 pub counters-after : (config : Config) (m : Map) (d : Decision) (n : ℕ) → ((r : ℕ) → IsWithin n (record_in m r)) → (r : ℕ) → IsWithin (n + 1) (record_in (map_after config m d) r)
 counters-after config m d n h =
-    each_after (λ q x. IsWithin (n + 1) x) m d.resource (outcome_on config m d).next
+    each_after (λ q x. IsWithin (n + 1) x) m d.resource (effect_on config m d).next
     (IsWithin-after config d.time d.resource n (record_in m d.resource) d.asked (h d.resource))
     (λ q. record { turn = omega (arith, (h q).turn); generations = more n (record_in m q).kinds (h q).generations })

@@ -12,10 +12,10 @@ use Rattle.storage_model.specs.declared.record.KindRecord.{KindRecord}
 use Rattle.storage_model.specs.declared.record.Record.{Record}
 use Rattle.storage_model.specs.declared.request.Value.{Value}
 use Rattle.storage_model.specs.declared.request.AskedKind.{AskedKind}
-use Rattle.storage_model.specs.declared.request.StoreAsked.{StoreAsked}
+use Rattle.storage_model.specs.declared.request.Asked.{Asked}
 use Rattle.storage_model.specs.Records.{Map, record_in, floor_in, slot_in}
 use Rattle.storage_model.specs.Verdict.{values_of, slot_of, kind_after, put_kind, kinds_after, puts, swept, is_too_old, code_of}
-use Rattle.storage_model.specs.Decisions.{Decision, map_after, outcome_on, times_for, IsSoundKinds}
+use Rattle.storage_model.specs.Decisions.{Decision, map_after, effect_on, kinds_of, times_for, IsSoundKinds}
 use Rattle.storage_model.proofs.Lookups.{floor_of, floor_in-put, floor_in-swept}
 use Rattle.storage_model.proofs.Times.{times_of, either_nil, times_for-nil, times_for-cons, times_of-whole, times_for-few, times_for-over}
 use Rattle.storage_model.proofs.Maps.{each_after}
@@ -55,17 +55,17 @@ last_of-either true t f ts = refl
 last_of-either false t f ts = refl
 
 -- each kind has at most one value
-abbrev AreFew : List AskedKind → Type 0
+abbrev pub AreFew : List AskedKind → Type 0
 AreFew asked = AllByRecursion (λ a. length (values_of a) ≤ 1) asked
 
 -- so it is in a sound Store
-are_few : (asked : List AskedKind) → IsSoundKinds asked → AreFew asked
+pub are_few : (asked : List AskedKind) → IsSoundKinds asked → AreFew asked
 unfolding IsSoundKinds
 are_few [] h = tt
 are_few (a ∷ asked) h = (h.0, are_few asked h.2)
 
 -- puts each of some kinds
-abbrev put_all : ℕ → List KindRecord → List KindRecord → List AskedKind → List KindRecord
+abbrev pub put_all : ℕ → List KindRecord → List KindRecord → List AskedKind → List KindRecord
 put_all now kinds base asked = fold (λ after a. put_kind (kind_after now kinds a) after) base asked
 
 -- the floor after kinds were put is the last of their times
@@ -86,7 +86,7 @@ floor_in-put_all now kinds id (a ∷ asked) base few =
     ⊎_elim absent there (none_or_one now kinds a few.0) ∙ ap (last_of f) (sym (times_for-cons id [] a asked))
 
 -- whether a kind gets a value
-abbrev gets : List AskedKind → ℕ → Bool
+abbrev pub gets : List AskedKind → ℕ → Bool
 gets asked id = list_any (λ a. puts a && (eqb a.kind id)) asked
 
 -- one more kind, without a value
@@ -142,15 +142,15 @@ kept_floor config now resource kinds asked id sound e =
     (last_of-over (floor_in kinds id []) (times_for id [] asked) (times_for-few id [] asked sound) (times_for-over kinds id [] asked (none_too_old config now resource kinds asked e)))
 
 -- the record after a decision
-floor-record_after : (config : Config) (now resource : ℕ) (x : Record) (q : StoreAsked) (id : ℕ) → IsSoundKinds q.kinds → floor_in x.kinds id [] ≤ floor_in (record_after config now resource x q).kinds id []
-floor-record_after config now resource x q id sound = kinds-record_after (λ kinds. floor_in x.kinds id [] ≤ floor_in kinds id []) config now resource x q (omega arith) (kept_floor config now resource x.kinds q.kinds id sound)
+floor-record_after : (config : Config) (now resource : ℕ) (x : Record) (asked : Asked) (id : ℕ) → IsSoundKinds (kinds_of asked) → floor_in x.kinds id [] ≤ floor_in (record_after config now resource x asked).kinds id []
+floor-record_after config now resource x asked id sound = kinds-record_after (λ kinds. floor_in x.kinds id [] ≤ floor_in kinds id []) config now resource x asked (omega arith) (kept_floor config now resource x.kinds (kinds_of asked) id sound)
 
 -- no decision lowers the floor of a single kind
-pub floor-map_after : (config : Config) (m : Map) (d : Decision) (r id : ℕ) → IsSoundKinds d.asked.kinds → floor_in (record_in m r).kinds id [] ≤ floor_in (record_in (map_after config m d) r).kinds id []
+pub floor-map_after : (config : Config) (m : Map) (d : Decision) (r id : ℕ) → IsSoundKinds (kinds_of d.asked) → floor_in (record_in m r).kinds id [] ≤ floor_in (record_in (map_after config m d) r).kinds id []
 floor-map_after config m d r id sound =
-    each_after (λ q x. floor_in (record_in m q).kinds id [] ≤ floor_in x.kinds id []) m d.resource (outcome_on config m d).next
+    each_after (λ q x. floor_in (record_in m q).kinds id [] ≤ floor_in x.kinds id []) m d.resource (effect_on config m d).next
     (floor-record_after config d.time d.resource (record_in m d.resource) d.asked id sound) (λ q. omega arith) r
 
 -- the same at each key that a value can have
-pub floor-any : (config : Config) (m : Map) (d : Decision) (r id : ℕ) (key : SlotKey) → IsSoundKinds d.asked.kinds → floor_in (record_in m r).kinds id (key_of key) ≤ floor_in (record_in (map_after config m d) r).kinds id (key_of key)
+pub floor-any : (config : Config) (m : Map) (d : Decision) (r id : ℕ) (key : SlotKey) → IsSoundKinds (kinds_of d.asked) → floor_in (record_in m r).kinds id (key_of key) ≤ floor_in (record_in (map_after config m d) r).kinds id (key_of key)
 floor-any config m d r id Whole sound = floor-map_after config m d r id sound

@@ -1,5 +1,6 @@
 pub mod Counters
 pub mod Floors
+pub mod LastPuts
 pub mod Lookups
 pub mod Maps
 pub mod Once

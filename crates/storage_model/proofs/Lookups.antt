@@ -26,7 +26,7 @@ same_first : {X : Type 0} (j k id : ℕ) (x y z : X) → eqb k j ≡ true → co
 same_first j k id x y z e = grind (arith, nat_tests)
 
 -- a kind that is put is found, and each other kind as before
-kind_in-put : (k : KindRecord) (kinds : List KindRecord) (id : ℕ) → kind_in (put_kind k kinds) id ≡ cond (eqb k.kind id) (Some k) (kind_in kinds id)
+pub kind_in-put : (k : KindRecord) (kinds : List KindRecord) (id : ℕ) → kind_in (put_kind k kinds) id ≡ cond (eqb k.kind id) (Some k) (kind_in kinds id)
 unfolding kind_in put_kind
 kind_in-put k [] id = refl
 kind_in-put k (j ∷ js) id =

@@ -9,20 +9,22 @@ use Rattle.storage_model.specs.declared.record.Kept.{Kept}
 use Rattle.storage_model.specs.declared.record.Record.{Record}
 use Rattle.storage_model.specs.declared.request.Value.{Value}
 use Rattle.storage_model.specs.declared.request.AskedKind.{AskedKind}
+use Rattle.storage_model.specs.declared.request.Asked.{Asked}
+use Rattle.storage_model.specs.declared.request.Asked.TheVariants.{Store, Fetch}
 use Rattle.storage_model.specs.declared.request.StoreAsked.{StoreAsked}
 use Rattle.storage_model.specs.Records.{Map, record_in, floor_in, kept_for}
 use Rattle.storage_model.specs.Verdict.{values_of, puts, kinds_after, code_of, outcome_of, first_outcome, kept_outcome, noted}
-use Rattle.storage_model.specs.Decisions.{Decision, map_after, outcome_on, acting_from, times_for, times_in, Rises, NoneTwice, IsOnce, IsSoundKinds, AreSound}
+use Rattle.storage_model.specs.Decisions.{Decision, map_after, effect_of, effect_on, kinds_of, acting_from, times_for, times_in, Rises, NoneTwice, IsOnce, IsSoundKinds, AreSound}
 use Rattle.storage_model.proofs.Times.{times_of, times_of-whole, times_for-cons, times_for-few, times_for-over, times_for-other, each_right}
 use Rattle.storage_model.proofs.Floors.{last_of, floor_in-after, none_too_old, floor-map_after}
 use Rattle.storage_model.proofs.Maps.{record_in-same}
 use Rattle.storage_model.proofs.Outcomes.{record_after}
 
 -- a decision that acts was accepted, and puts a value
-pub record Acts (config : Config) (now resource : ℕ) (x : Record) (q : StoreAsked) : Type 0 where
-  pub accepted : code_of config now resource x.kinds q.kinds ≡ 0
-  pub kinds : (record_after config now resource x q).kinds ≡ kinds_after now q.kinds x.kinds
-  pub some : list_any puts q.kinds ≡ true
+pub record Acts (config : Config) (now resource : ℕ) (x : Record) (asked : Asked) : Type 0 where
+  pub accepted : code_of config now resource x.kinds (kinds_of asked) ≡ 0
+  pub kinds : (record_after config now resource x asked).kinds ≡ kinds_after now (kinds_of asked) x.kinds
+  pub some : list_any puts (kinds_of asked) ≡ true
 
 -- the same, where o is the answer that is kept
 abbrev ActsAt : ℕ → ℕ → Record → StoreAsked → Option Kept → Type 0
@@ -36,10 +38,11 @@ acts_of code now x q None e =
     let parts = and_parts (eqb code 0) (list_any puts q.kinds) e in
     (eqb-true code 0 parts.0, cond-true (eqb code 0) (kinds_after now q.kinds x.kinds) x.kinds parts.0, parts.1)
 
--- a decision acts where its verdict says so
-acts : (config : Config) (now resource : ℕ) (x : Record) (q : StoreAsked) → (outcome_of config now resource x q).verdict.acted ≡ true → Acts config now resource x q
+-- what acts is a Store that was accepted
+acts : (config : Config) (now resource : ℕ) (x : Record) (asked : Asked) → (effect_of config now resource x asked).acted ≡ true → Acts config now resource x asked
 unfolding outcome_of
-acts config now resource x q e =
+acts config now resource x (Fetch q) e = absurd (true≢false (sym e))
+acts config now resource x (Store q) e =
     let a : ActsAt (code_of config now resource x.kinds q.kinds) now x q (kept_for x.kept q.origin.0 q.id) = acts_of (code_of config now resource x.kinds q.kinds) now x q (kept_for x.kept q.origin.0 q.id) e in
     record { accepted = a.0; kinds = a.1; some = a.2 }
 
@@ -65,30 +68,30 @@ unfolding times_in
 times_in-nil r id key = refl
 
 -- the times of the first decision, and of the others
-times_in-cons : (r id : ℕ) (key : List ℕ) (d : Decision) (ds : List Decision) → times_in r id key (d ∷ ds) ≡ cond (eqb d.resource r) (times_for id key d.asked.kinds) [] ++ times_in r id key ds
+times_in-cons : (r id : ℕ) (key : List ℕ) (d : Decision) (ds : List Decision) → times_in r id key (d ∷ ds) ≡ cond (eqb d.resource r) (times_for id key (kinds_of d.asked)) [] ++ times_in r id key ds
 unfolding times_in
 times_in-cons r id key d ds = refl
 
 -- the step of a decision that gives no time here
-rises_other : (config : Config) (m : Map) (d : Decision) (r id : ℕ) (ys : List ℕ) → IsSoundKinds d.asked.kinds → RisesOver (floor_in (record_in (map_after config m d) r).kinds id []) ys → RisesOver (floor_in (record_in m r).kinds id []) ys
+rises_other : (config : Config) (m : Map) (d : Decision) (r id : ℕ) (ys : List ℕ) → IsSoundKinds (kinds_of d.asked) → RisesOver (floor_in (record_in (map_after config m d) r).kinds id []) ys → RisesOver (floor_in (record_in m r).kinds id []) ys
 rises_other config m d r id ys sound h = (h.0, over_less _ _ ys (floor-map_after config m d r id sound) h.1)
 
 -- the step of a decision that acts, at its resource
-rises_here : (config : Config) (m : Map) (d : Decision) (id : ℕ) (ys : List ℕ) → IsSoundKinds d.asked.kinds → (outcome_on config m d).verdict.acted ≡ true → RisesOver (floor_in (record_in (map_after config m d) d.resource).kinds id []) ys → RisesOver (floor_in (record_in m d.resource).kinds id []) (times_for id [] d.asked.kinds ++ ys)
+rises_here : (config : Config) (m : Map) (d : Decision) (id : ℕ) (ys : List ℕ) → IsSoundKinds (kinds_of d.asked) → (effect_on config m d).acted ≡ true → RisesOver (floor_in (record_in (map_after config m d) d.resource).kinds id []) ys → RisesOver (floor_in (record_in m d.resource).kinds id []) (times_for id [] (kinds_of d.asked) ++ ys)
 rises_here config m d id ys sound e h =
     let x : Record = record_in m d.resource in
     let a = acts config d.time d.resource x d.asked e in
-    rises_join (floor_in x.kinds id []) (floor_in (record_in (map_after config m d) d.resource).kinds id []) (times_for id [] d.asked.kinds) ys
-    (times_for-few id [] d.asked.kinds sound)
-    (times_for-over x.kinds id [] d.asked.kinds (none_too_old config d.time d.resource x.kinds d.asked.kinds a.accepted))
-    (ap (λ (y : Record). floor_in y.kinds id []) (record_in-same m d.resource (outcome_on config m d).next) ∙ ap (λ kinds. floor_in kinds id []) a.kinds ∙ floor_in-after d.time d.asked.kinds x.kinds id sound)
+    rises_join (floor_in x.kinds id []) (floor_in (record_in (map_after config m d) d.resource).kinds id []) (times_for id [] (kinds_of d.asked)) ys
+    (times_for-few id [] (kinds_of d.asked) sound)
+    (times_for-over x.kinds id [] (kinds_of d.asked) (none_too_old config d.time d.resource x.kinds (kinds_of d.asked) a.accepted))
+    (ap (λ (y : Record). floor_in y.kinds id []) (record_in-same m d.resource (effect_on config m d).next) ∙ ap (λ kinds. floor_in kinds id []) a.kinds ∙ floor_in-after d.time (kinds_of d.asked) x.kinds id sound)
     h
 
 -- the same at any resource
-rises_acting : (config : Config) (m : Map) (d : Decision) (r id : ℕ) (ys : List ℕ) → IsSoundKinds d.asked.kinds → (outcome_on config m d).verdict.acted ≡ true → RisesOver (floor_in (record_in (map_after config m d) r).kinds id []) ys → RisesOver (floor_in (record_in m r).kinds id []) (cond (eqb d.resource r) (times_for id [] d.asked.kinds) [] ++ ys)
+rises_acting : (config : Config) (m : Map) (d : Decision) (r id : ℕ) (ys : List ℕ) → IsSoundKinds (kinds_of d.asked) → (effect_on config m d).acted ≡ true → RisesOver (floor_in (record_in (map_after config m d) r).kinds id []) ys → RisesOver (floor_in (record_in m r).kinds id []) (cond (eqb d.resource r) (times_for id [] (kinds_of d.asked)) [] ++ ys)
 rises_acting config m d r id ys sound e h =
-    (elim (eqb d.resource r) as (λ b. eqb d.resource r ≡ b → RisesOver (floor_in (record_in m r).kinds id []) (cond b (times_for id [] d.asked.kinds) [] ++ ys)) [
-      | true ↦ λ same. subst (λ i. RisesOver (floor_in (record_in (map_after config m d) i).kinds id []) ys → RisesOver (floor_in (record_in m i).kinds id []) (times_for id [] d.asked.kinds ++ ys)) (eqb-true d.resource r same) (rises_here config m d id ys sound e) h
+    (elim (eqb d.resource r) as (λ b. eqb d.resource r ≡ b → RisesOver (floor_in (record_in m r).kinds id []) (cond b (times_for id [] (kinds_of d.asked)) [] ++ ys)) [
+      | true ↦ λ same. subst (λ i. RisesOver (floor_in (record_in (map_after config m d) i).kinds id []) ys → RisesOver (floor_in (record_in m i).kinds id []) (times_for id [] (kinds_of d.asked) ++ ys)) (eqb-true d.resource r same) (rises_here config m d id ys sound e) h
       | false ↦ λ other. rises_other config m d r id ys sound h
     ]) refl
 
@@ -98,7 +101,7 @@ unfolding acting_from times_in Rises
 rises config m [] r id sound = (tt, tt)
 rises config m (d ∷ ds) r id sound =
     let rest = rises config (map_after config m d) ds r id sound.1 in
-    (elim ((outcome_on config m d).verdict.acted) as (λ b. (outcome_on config m d).verdict.acted ≡ b → RisesOver (floor_in (record_in m r).kinds id []) (times_in r id [] (cond b (d ∷ []) [] ++ acting_from config (map_after config m d) ds))) [
+    (elim ((effect_on config m d).acted) as (λ b. (effect_on config m d).acted ≡ b → RisesOver (floor_in (record_in m r).kinds id []) (times_in r id [] (cond b (d ∷ []) [] ++ acting_from config (map_after config m d) ds))) [
       | true ↦ λ e. rises_acting config m d r id (times_in r id [] (acting_from config (map_after config m d) ds)) sound.0 e rest
       | false ↦ λ e. rises_other config m d r id (times_in r id [] (acting_from config (map_after config m d) ds)) sound.0 rest
     ]) refl
@@ -111,7 +114,7 @@ none_at false xs ys x y = y
 -- no decision gives a time at another key
 times_in-other : (r id n : ℕ) (key : List ℕ) (ds : List Decision) → times_in r id (n ∷ key) ds ≡ []
 times_in-other r id n key [] = times_in-nil r id (n ∷ key)
-times_in-other r id n key (d ∷ ds) = times_in-cons r id (n ∷ key) d ds ∙ none_at (eqb d.resource r) _ _ (times_for-other id n key d.asked.kinds) (times_in-other r id n key ds)
+times_in-other r id n key (d ∷ ds) = times_in-cons r id (n ∷ key) d ds ∙ none_at (eqb d.resource r) _ _ (times_for-other id n key (kinds_of d.asked)) (times_in-other r id n key ds)
 
 -- no time rises
 rises_none : Rises []
@@ -124,12 +127,12 @@ times_rise config m ds sound r id [] = (rises config m ds r id sound).0
 times_rise config m ds sound r id (n ∷ key) = subst Rises (sym (times_in-other r id n key (acting_from config m ds))) rises_none
 
 -- each decision that acts puts a value
-each_puts : (config : Config) (m : Map) (ds : List Decision) → AllByRecursion (λ d. list_any puts d.asked.kinds ≡ true) (acting_from config m ds)
+each_puts : (config : Config) (m : Map) (ds : List Decision) → AllByRecursion (λ d. list_any puts (kinds_of d.asked) ≡ true) (acting_from config m ds)
 unfolding acting_from
 each_puts config m [] = tt
 each_puts config m (d ∷ ds) =
     let rest = each_puts config (map_after config m d) ds in
-    (elim ((outcome_on config m d).verdict.acted) as (λ b. (outcome_on config m d).verdict.acted ≡ b → AllByRecursion (λ (x : Decision). list_any puts x.asked.kinds ≡ true) (cond b (d ∷ []) [] ++ acting_from config (map_after config m d) ds)) [
+    (elim ((effect_on config m d).acted) as (λ b. (effect_on config m d).acted ≡ b → AllByRecursion (λ (x : Decision). list_any puts (kinds_of x.asked) ≡ true) (cond b (d ∷ []) [] ++ acting_from config (map_after config m d) ds)) [
       | true ↦ λ e. ((acts config d.time d.resource (record_in m d.resource) d.asked e).some, rest)
       | false ↦ λ e. rest
     ]) refl
@@ -180,16 +183,16 @@ abbrev Differs : Decision → Decision → Type 0
 Differs d e = (e.resource ≡ d.resource) × (e.asked ≡ d.asked) → ⊥
 
 -- by recursion over those decisions
-none_same : (d : Decision) (t id : ℕ) (us : List ℕ) → times_for id [] d.asked.kinds ≡ t ∷ us → (ds : List Decision) → AllByRecursion (λ n. t < n) (times_in d.resource id [] ds) → AllByRecursion (Differs d) ds
+none_same : (d : Decision) (t id : ℕ) (us : List ℕ) → times_for id [] (kinds_of d.asked) ≡ t ∷ us → (ds : List Decision) → AllByRecursion (λ n. t < n) (times_in d.resource id [] ds) → AllByRecursion (Differs d) ds
 none_same d t id us first [] h = tt
-none_same d t id us first (e ∷ ds) h = (differs, none_same d t id us first ds (each_right (λ n. t < n) (cond (eqb e.resource d.resource) (times_for id [] e.asked.kinds) []) (times_in d.resource id [] ds) all))
+none_same d t id us first (e ∷ ds) h = (differs, none_same d t id us first ds (each_right (λ n. t < n) (cond (eqb e.resource d.resource) (times_for id [] (kinds_of e.asked)) []) (times_in d.resource id [] ds) all))
   where
-    all : AllByRecursion (λ n. t < n) (cond (eqb e.resource d.resource) (times_for id [] e.asked.kinds) [] ++ times_in d.resource id [] ds)
+    all : AllByRecursion (λ n. t < n) (cond (eqb e.resource d.resource) (times_for id [] (kinds_of e.asked)) [] ++ times_in d.resource id [] ds)
     all = subst (AllByRecursion (λ n. t < n)) (times_in-cons d.resource id [] e ds) h
 
     differs : Differs d e
     differs same =
-        let here : cond (eqb e.resource d.resource) (times_for id [] e.asked.kinds) [] ≡ t ∷ us = cond-true (eqb e.resource d.resource) (times_for id [] e.asked.kinds) [] (eq-eqb e.resource d.resource same.0) ∙ ap (λ (q : StoreAsked). times_for id [] q.kinds) same.1 ∙ first in
+        let here : cond (eqb e.resource d.resource) (times_for id [] (kinds_of e.asked)) [] ≡ t ∷ us = cond-true (eqb e.resource d.resource) (times_for id [] (kinds_of e.asked)) [] (eq-eqb e.resource d.resource same.0) ∙ ap (λ (q : Asked). times_for id [] (kinds_of q)) same.1 ∙ first in
         let later : AllByRecursion (λ n. t < n) ((t ∷ us) ++ times_in d.resource id [] ds) = subst (λ (ts : List ℕ). AllByRecursion (λ n. t < n) (ts ++ times_in d.resource id [] ds)) here all in
         absurd (omega (arith, later.0))
 
@@ -205,15 +208,15 @@ rises-right [] ys h = h
 rises-right (x ∷ xs) ys h = rises-right xs ys h.1
 
 -- where times rise, no Store stands twice
-none_twice : (ds : List Decision) → AllByRecursion (λ d. list_any puts d.asked.kinds ≡ true) ds → ((r id : ℕ) → Rises (times_in r id [] ds)) → NoneTwice ds
+none_twice : (ds : List Decision) → AllByRecursion (λ d. list_any puts (kinds_of d.asked) ≡ true) ds → ((r id : ℕ) → Rises (times_in r id [] ds)) → NoneTwice ds
 unfolding NoneTwice
 none_twice [] put rise = tt
-none_twice (d ∷ ds) put rise = (head, none_twice ds put.1 (λ r id. rises-right (cond (eqb d.resource r) (times_for id [] d.asked.kinds) []) (times_in r id [] ds) (subst Rises (times_in-cons r id [] d ds) (rise r id))))
+none_twice (d ∷ ds) put rise = (head, none_twice ds put.1 (λ r id. rises-right (cond (eqb d.resource r) (times_for id [] (kinds_of d.asked)) []) (times_in r id [] ds) (subst Rises (times_in-cons r id [] d ds) (rise r id))))
   where
     head : AllByRecursion (Differs d) ds
     head =
-        let g = gives d.asked.kinds put.0 in
-        let first : cond (eqb d.resource d.resource) (times_for g.0 [] d.asked.kinds) [] ≡ g.1.0 ∷ g.1.1 = cond-true (eqb d.resource d.resource) (times_for g.0 [] d.asked.kinds) [] (eq-eqb d.resource d.resource refl) ∙ g.1.2 in
+        let g = gives (kinds_of d.asked) put.0 in
+        let first : cond (eqb d.resource d.resource) (times_for g.0 [] (kinds_of d.asked)) [] ≡ g.1.0 ∷ g.1.1 = cond-true (eqb d.resource d.resource) (times_for g.0 [] (kinds_of d.asked)) [] (eq-eqb d.resource d.resource refl) ∙ g.1.2 in
         none_same d g.1.0 g.0 g.1.1 g.1.2 ds (rises-later g.1.0 g.1.1 (times_in d.resource g.0 [] ds) (subst (λ (ts : List ℕ). Rises (ts ++ times_in d.resource g.0 [] ds)) first (subst Rises (times_in-cons d.resource g.0 [] d ds) (rise d.resource g.0))))
 
 -- sound decisions act once
@@ -224,7 +227,7 @@ once config ds sound = record {
 }
 
 -- the times of a Store that acts
-pub acting_over : (config : Config) (m : Map) (d : Decision) (id : ℕ) (key : List ℕ) → (outcome_on config m d).verdict.acted ≡ true → AllByRecursion (λ t. floor_in (record_in m d.resource).kinds id key < t) (times_for id key d.asked.kinds)
+pub acting_over : (config : Config) (m : Map) (d : Decision) (id : ℕ) (key : List ℕ) → (effect_on config m d).acted ≡ true → AllByRecursion (λ t. floor_in (record_in m d.resource).kinds id key < t) (times_for id key (kinds_of d.asked))
 acting_over config m d id key e =
     let x : Record = record_in m d.resource in
-    times_for-over x.kinds id key d.asked.kinds (none_too_old config d.time d.resource x.kinds d.asked.kinds (acts config d.time d.resource x d.asked e).accepted)
+    times_for-over x.kinds id key (kinds_of d.asked) (none_too_old config d.time d.resource x.kinds (kinds_of d.asked) (acts config d.time d.resource x d.asked e).accepted)

@@ -1,4 +1,5 @@
 pub mod Records
 pub mod Verdict
+pub mod Fetches
 pub mod Decisions
 pub mod Laws

@@ -7,9 +7,9 @@ mod request;
 mod verdict;
 
 pub use laws::{
-    acting_stores_are_newer, decisions_bound_counters, floors_never_fall, repeats_get_their_answer,
-    stores_act_once,
+    acting_stores_are_newer, decisions_bound_counters, fetches_give_the_last_put,
+    floors_never_fall, repeats_get_their_answer, stores_act_once,
 };
 pub use record::{Held, Kept, KindRecord, Record, Slot};
-pub use request::{AskedKind, StoreAsked, Value};
-pub use verdict::StoreVerdict;
+pub use request::{Asked, AskedKind, FetchAsked, StoreAsked, Value};
+pub use verdict::{FetchVerdict, StoreVerdict};

@@ -1,6 +1,6 @@
 //! Requests as they were read.
 
-use data_models::StoredData;
+use data_models::{Specifier, StoredData};
 use reload_base::{Bytes, List};
 use reload_ids::NodeId;
 
@@ -33,4 +33,19 @@ pub struct StoreAsked {
     /// The transaction id.
     pub id: u64,
     pub kinds: List<AskedKind>,
+}
+
+/// A Fetch (RFC 6940, section 7.4.2).
+#[derive(Debug, Drop)]
+pub struct FetchAsked {
+    /// The most bytes of the answer's message contents, or 0 for no limit of the asker's own.
+    pub max: u32,
+    pub specifiers: List<Specifier>,
+}
+
+/// What a peer is asked to decide.
+#[derive(Debug, Drop)]
+pub enum Asked {
+    Store(StoreAsked),
+    Fetch(FetchAsked),
 }

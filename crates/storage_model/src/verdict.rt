@@ -1,5 +1,6 @@
 //! What is decided.
 
+use data_models::StoreKind;
 use reload_base::List;
 
 /// The answer to a Store.
@@ -14,4 +15,13 @@ pub struct StoreVerdict {
     pub repeat: bool,
     /// Whether a value was put.
     pub acted: bool,
+}
+
+/// The answer to a Fetch.
+#[derive(Debug, Drop)]
+pub enum FetchVerdict {
+    /// The asked kinds, in the order of the request.
+    Values(List<StoreKind>),
+    /// An error code (RFC 6940, section 6.3.3.1).
+    Refused(u16),
 }
