@@ -4,3 +4,4 @@ pub mod Judges
 pub mod Maps
 pub mod Lights
 pub mod Shelves
+pub mod Gives

@@ -1,4 +1,4 @@
-//! The tests of a Store, and the code of the first that it fails (RFC 6940, sections 6.3.3.1 and 7.4.1).
+//! The codes of errors, the tests of a Store, and the code of the first that it fails (RFC 6940, sections 6.3.3.1 and 7.4.1).
 
 ghost use Rattle.std.specs.Prelude.{◌≡◌, ◌||◌, length, nat_lt, Option, Some, None, if◌then◌else◌};
 ghost use Rattle.std.specs.Option.{option_map_or};
@@ -21,6 +21,8 @@ pub const TOO_LARGE: u16 = 8;
 pub const TOO_OLD: u16 = 9;
 /// Error_Unknown_Kind.
 pub const UNKNOWN_KIND: u16 = 12;
+/// Error_Response_Too_Large.
+pub const RESPONSE_TOO_LARGE: u16 = 14;
 
 #[tactic(auto, unfolding(storage_model::specs::Verdict::is_unknown))]
 fn is_unknown(config: &Config, asked: &AskedKind) -> bool

@@ -6,6 +6,7 @@ ghost use Rattle.std.specs.FinMap as map;
 ghost use Rattle.storage_model.specs.Records as records;
 
 use crate::decide::decide_on;
+use crate::fetch::fetch_from;
 use crate::weigh::weight_of;
 use data_models::Config;
 use reload_base::{List, NoMemory};
@@ -13,7 +14,7 @@ use reload_ids::ResourceId;
 use std::alloc::Global;
 use std::collections::BTreeMap;
 use std::marker::Model;
-use storage_model::{Record, StoreAsked, StoreVerdict};
+use storage_model::{FetchAsked, FetchVerdict, KindRecord, Record, StoreAsked, StoreVerdict};
 
 /// The records of one peer, by resource. Contracts see the map from resources to records.
 #[derive(Debug, Drop)]
@@ -43,6 +44,7 @@ impl Model for Shelf {
 impl Shelf {
     ghost use Rattle.storage_model.specs.Records.{record_in, weight};
     ghost use Rattle.storage_model.specs.Verdict.{outcome_of, changed};
+    ghost use Rattle.storage_model.specs.Fetches.{fetch_verdict};
     ghost use Rattle.kind_store.specs.Counted.{IsCounted};
 
     /// A shelf without records, which takes no memory yet.
@@ -80,6 +82,32 @@ impl Shelf {
                 self.records.insert(r.0, fresh)?;
                 Ok(verdict)
             }
+        }
+    }
+
+    /// Answers a Fetch for a resource (RFC 6940, section 7.4.2), at a clock in milliseconds: its values, each with the
+    /// rest of its lifetime, or an error code. An expired value is given as a gap.
+    pub fn answer_fetch(
+        &self,
+        alloc: Global,
+        cfg: &Config,
+        now: u64,
+        r: ResourceId,
+        q: &FetchAsked,
+    ) -> Result<FetchVerdict, NoMemory>
+        requires { now < 2 ^ 62 }
+        ensures { IfOk result (λ v. v ≡ fetch_verdict cfg.now now (record_in self.now r.0).kinds q.now) }
+    {
+        fetch_from(alloc, cfg, now, self.kinds(r), q)
+    }
+
+    /// What a resource has of each kind, by rising Kind-ID.
+    fn kinds(&self, r: ResourceId) -> &[KindRecord]
+        ensures { result.now ≡ (record_in self.now r.0).kinds }
+    {
+        match self.records.get(&r.0) {
+            Some(held) => held.kinds.as_slice(),
+            None => &[],
         }
     }
 
