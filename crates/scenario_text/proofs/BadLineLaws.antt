@@ -1,5 +1,5 @@
 -- The bad line that is named is the first that is outside the grammar.
-use Rattle.std.proofs.Common.{◌≡◌, ℕ, ◌+◌, ◌-◌, ◌^◌, ◌==◌, ◌<◌, ◌≤◌, Bool, true, false, cond, List, [], ◌∷◌, ◌++◌, length, take, Option, Some, None, Result, Ok, Err, refl, sym, ap, subst, ◌∙◌, append_assoc, inl, inr, arith}
+use Rattle.std.proofs.Common.{◌≡◌, ℕ, ◌+◌, ◌-◌, ◌^◌, ◌==◌, ◌<◌, Bool, true, false, cond, List, [], ◌∷◌, ◌++◌, length, take, Option, Some, None, Result, Ok, Err, refl, sym, ap, subst, ◌∙◌, append_assoc, inl, inr, arith}
 use Rattle.std.specs.Prelude.{◌⊎◌}
 use Rattle.std.specs.List.{flat_map, All}
 use Rattle.std.proofs.lemmas.List.{append-nil, length-append, take_at, take_all}
@@ -13,8 +13,8 @@ use Rattle.scenario_text.specs.declared.draft.Draft.{Draft}
 use Rattle.scenario_text.specs.declared.draft.Draft.TheVariants as draft
 use Rattle.scenario_text.specs.Scenarios.{Say, IsTextOf, Begin, IsFirstBad}
 use Rattle.scenario_text.specs.Reading.{line_at, next_or_bad, reading_from, scenario_of, whole_or_bad, reading_on, reading}
-use Rattle.scenario_text.proofs.TextLaws.{length-lines_of, lines-say, front-reads, reading-again}
-use Rattle.scenario_text.proofs.BadLineLawsCompletion.{missing, missing-lack, length-missing, missing-completes}
+use Rattle.scenario_text.proofs.TextLaws.{lines-say, front-reads, reading-again}
+use Rattle.scenario_text.proofs.BadLineLawsCompletion.{missing, missing-lack, missing-completes}
 
 ok_isnt_err : {A : Type 0} (x : A) (n : ℕ) → ◌≡◌ {A = Result A ℕ} (Ok x) (Err n) → ⊥
 ok_isnt_err x n e = cc
@@ -80,28 +80,28 @@ lines_of-front (line ∷ front) more each =
     ∙ ap (λ (parts : List (List ℕ) × List ℕ). (line ∷ parts.0, parts.1)) later
 
 -- lines that are read begin some scenario's text
-begins : (front : List (List ℕ)) (last : Draft) → All (Lacks 10) front → length front < 2 ^ 63 → reading_from draft.Empty 1 front ≡ Ok last → Begin front
-begins front last each few e =
+begins : (front : List (List ℕ)) (last : Draft) → All (Lacks 10) front → reading_from draft.Empty 1 front ≡ Ok last → Begin front
+begins front last each e =
     let more : List (List ℕ) = missing last in
     let rest = missing-completes last (1 + length front) in
     let lines : lines_of (flat_map ended more) ≡ (more, []) = ap lines_of (sym (append-nil (flat_map ended more))) ∙ lines_of-only more [] (missing-lack last) (Lacks-nil 10) in
     let whole : lines_of (flat_map ended front ++ flat_map ended more) ≡ (front ++ more, []) =
     lines_of-front front (flat_map ended more) each ∙ ap (λ (parts : List (List ℕ) × List ℕ). (front ++ parts.0, parts.1)) lines in
-    let says = lines-say (front ++ more) rest.0 rest.1 (omega (arith, length-append front more, length-missing last)) (reading_from-append draft.Empty 1 front more last e ∙ rest.2) in
+    let says = lines-say (front ++ more) rest.0 (reading_from-append draft.Empty 1 front more last e ∙ rest.1) in
     (flat_map ended more, rest.0, record { scenario = says.0; whole = ap (λ (parts : List (List ℕ) × List ℕ). parts.1) whole; says = subst (λ (parts : List (List ℕ) × List ℕ). Say parts.0 rest.0) (sym whole) says.1 })
 
 -- and backwards
-begun : (front : List (List ℕ)) → All (Lacks 10) front → length front < 2 ^ 64 → Begin front → (last : Draft) × (reading_from draft.Empty 1 front ≡ Ok last)
-begun front each few (more, s, is) =
+begun : (front : List (List ℕ)) → All (Lacks 10) front → Begin front → (last : Draft) × (reading_from draft.Empty 1 front ≡ Ok last)
+begun front each (more, s, is) =
     let say : Say (front ++ (lines_of more).0) s = subst (λ (parts : List (List ℕ) × List ℕ). Say parts.0 s) (lines_of-front front more each) is.says in
-    let read = front-reads front (lines_of more).0 s few is.scenario say in
+    let read = front-reads front (lines_of more).0 s is.scenario say in
     (read.0, read.1)
 
 -- lines up to one that is outside the grammar begin no scenario's text
-not_begun : (front : List (List ℕ)) (bad : List ℕ) (last : Draft) → All (Lacks 10) (front ++ bad ∷ []) → length (front ++ bad ∷ []) < 2 ^ 64 → reading_from draft.Empty 1 front ≡ Ok last → line_at last (1 + length front) bad ≡ None → Begin (front ++ bad ∷ []) → ⊥
+not_begun : (front : List (List ℕ)) (bad : List ℕ) (last : Draft) → All (Lacks 10) (front ++ bad ∷ []) → reading_from draft.Empty 1 front ≡ Ok last → line_at last (1 + length front) bad ≡ None → Begin (front ++ bad ∷ []) → ⊥
 unfolding reading_from
-not_begun front bad last each few e none begin =
-    let read = begun (front ++ bad ∷ []) each few begin in
+not_begun front bad last each e none begin =
+    let read = begun (front ++ bad ∷ []) each begin in
     let stop : reading_from draft.Empty 1 (front ++ bad ∷ []) ≡ Err (1 + length front) =
     reading_from-append draft.Empty 1 front (bad ∷ []) last e ∙ ap (λ (found : Option Draft). next_or_bad (1 + length front) found (λ next. Ok next)) none in
     ok_isnt_err read.0 (1 + length front) (sym read.1 ∙ stop)
@@ -114,7 +114,7 @@ whole_err m rest (Err bad) n e = inl (ap Err (err_same bad n e))
 whole_err m rest (Ok so_far) n e = inr (so_far, refl, by_rest (length rest == 0) e)
   where
     opened : (so_far : Draft) → scenario_of m so_far ≡ Err n → n ≡ m
-    opened (draft.Open t stores) e = cc
+    opened (draft.Open t) e = cc
     opened draft.Empty e = cc
     opened (draft.Named name) e = cc
     opened (draft.Configured config) e = cc
@@ -125,35 +125,33 @@ whole_err m rest (Ok so_far) n e = inr (so_far, refl, by_rest (length rest == 0)
     by_rest false e = cc
 
 -- a line that isn't read is the first bad one
-bad_at_line : (text : List ℕ) (n : ℕ) → length text < 2 ^ 63 → ((s : Scenario) → IsTextOf text s → ⊥) → Stops draft.Empty 1 (lines_of text).0 n → IsFirstBad text n
-bad_at_line text n short none stop =
+bad_at_line : (text : List ℕ) (n : ℕ) → ((s : Scenario) → IsTextOf text s → ⊥) → Stops draft.Empty 1 (lines_of text).0 n → IsFirstBad text n
+bad_at_line text n none stop =
     let lines : List (List ℕ) = (lines_of text).0 in
     let each : All (Lacks 10) lines = (lines_of-lacks text).0 in
     let at : n ≡ 1 + length stop.front = stop.at in
     let long : length lines ≡ length stop.front + (1 + length stop.behind) = ap length stop.parts ∙ length-append stop.front (stop.bad ∷ stop.behind) ∙ omega arith in
-    let up : length lines ≤ length text = length-lines_of text in
     let one_more : length (stop.front ++ stop.bad ∷ []) ≡ n = length-append stop.front (stop.bad ∷ []) ∙ omega arith in
     let front_is : take (n - 1) lines ≡ stop.front = ap (take (n - 1)) stop.parts ∙ take_at stop.front (stop.bad ∷ stop.behind) (n - 1) (omega arith) in
     let upto_is : take n lines ≡ stop.front ++ stop.bad ∷ [] = ap (take n) (stop.parts ∙ sym (append_assoc stop.front (stop.bad ∷ []) stop.behind)) ∙ take_at (stop.front ++ stop.bad ∷ []) stop.behind n one_more in
     record {
       counted = omega arith;
       within = omega arith;
-      before = subst Begin (sym front_is) (begins stop.front stop.last (subst (λ (ls : List (List ℕ)). All (Lacks 10) ls) front_is (All-take (Lacks 10) (n - 1) lines each)) (omega arith) stop.read);
-      there = λ within begin. not_begun stop.front stop.bad stop.last (subst (λ (ls : List (List ℕ)). All (Lacks 10) ls) upto_is (All-take (Lacks 10) n lines each)) (omega arith) stop.read
+      before = subst Begin (sym front_is) (begins stop.front stop.last (subst (λ (ls : List (List ℕ)). All (Lacks 10) ls) front_is (All-take (Lacks 10) (n - 1) lines each)) stop.read);
+      there = λ within begin. not_begun stop.front stop.bad stop.last (subst (λ (ls : List (List ℕ)). All (Lacks 10) ls) upto_is (All-take (Lacks 10) n lines each)) stop.read
           (ap (λ (m : ℕ). line_at stop.last m stop.bad) (sym at) ∙ stop.none) (subst Begin upto_is begin);
       none = none;
     }
 
 -- where all lines are read, the first bad line is the one behind them
-bad_behind : (text : List ℕ) (n : ℕ) (last : Draft) → length text < 2 ^ 63 → ((s : Scenario) → IsTextOf text s → ⊥) → reading_from draft.Empty 1 (lines_of text).0 ≡ Ok last → n ≡ 1 + length (lines_of text).0 → IsFirstBad text n
-bad_behind text n last short none read at =
+bad_behind : (text : List ℕ) (n : ℕ) (last : Draft) → ((s : Scenario) → IsTextOf text s → ⊥) → reading_from draft.Empty 1 (lines_of text).0 ≡ Ok last → n ≡ 1 + length (lines_of text).0 → IsFirstBad text n
+bad_behind text n last none read at =
     let lines : List (List ℕ) = (lines_of text).0 in
-    let up : length lines ≤ length text = length-lines_of text in
     let all : take (n - 1) lines ≡ lines = take_all (n - 1) lines (omega arith) in
     record {
       counted = omega arith;
       within = omega arith;
-      before = subst Begin (sym all) (begins lines last (lines_of-lacks text).0 (omega arith) read);
+      before = subst Begin (sym all) (begins lines last (lines_of-lacks text).0 read);
       there = λ within begin. absurd (omega arith);
       none = none;
     }
@@ -169,6 +167,6 @@ pub reading-bad : (text : List ℕ) → length text < 2 ^ 63 → (n : ℕ) → r
 reading-bad text short n e =
     let none : (s : Scenario) → IsTextOf text s → ⊥ = λ s is. ok_isnt_err s n (sym (reading-again text short s is) ∙ e) in
     elim (ended_badly text n e) [
-      | inl stopped ↦ bad_at_line text n short none (stops draft.Empty 1 (lines_of text).0 n stopped)
-      | inr (last, read, at) ↦ bad_behind text n last short none read at
+      | inl stopped ↦ bad_at_line text n none (stops draft.Empty 1 (lines_of text).0 n stopped)
+      | inr (last, read, at) ↦ bad_behind text n last none read at
     ]

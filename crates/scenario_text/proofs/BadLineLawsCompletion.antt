@@ -1,5 +1,5 @@
 -- The declarations that are still missing can always be added.
-use Rattle.std.proofs.Common.{◌≡◌, ◌≢◌, ℕ, ◌+◌, ◌==◌, ◌≤◌, Bool, true, false, List, [], ◌∷◌, ◌++◌, length, Some, Ok, refl, sym, subst, ◌∙◌, append_assoc, arith}
+use Rattle.std.proofs.Common.{◌≡◌, ◌≢◌, ℕ, ◌+◌, ◌==◌, ◌≤◌, Bool, true, false, List, [], ◌∷◌, ◌++◌, Some, Ok, refl, sym, subst, ◌∙◌, append_assoc, arith}
 use Rattle.std.specs.Prelude.{codes}
 use Rattle.std.specs.List.{All, list_any}
 use Rattle.std.proofs.lemmas.Bool.Decides.{nat_tests}
@@ -155,7 +155,7 @@ missing draft.Empty = overlay_line name ∷ kind_line kind ∷ node_lines
 missing (draft.Named word) = kind_line kind ∷ node_lines
 missing (draft.Configured config) = node_lines
 missing (draft.Peered config peer) = client_lines peer
-missing (draft.Open s stores) = []
+missing (draft.Open s) = []
 
 client_lines-lack : (peer : DeclaredNode) → All (Lacks 10) (client_lines peer)
 unfolding client_lines
@@ -175,20 +175,11 @@ missing-lack draft.Empty = All-cons (Lacks 10) (overlay_line name) (kind_line ki
 missing-lack (draft.Named word) = kind_lines-lack
 missing-lack (draft.Configured config) = node_lines-lack
 missing-lack (draft.Peered config peer) = client_lines-lack peer
-missing-lack (draft.Open s stores) = All-nil (Lacks 10)
-
--- there are four at most
-pub length-missing : (so_far : Draft) → length (missing so_far) ≤ 4
-unfolding missing node_lines client_lines
-length-missing draft.Empty = omega arith
-length-missing (draft.Named word) = omega arith
-length-missing (draft.Configured config) = omega arith
-length-missing (draft.Peered config peer) = omega arith
-length-missing (draft.Open s stores) = omega arith
+missing-lack (draft.Open s) = All-nil (Lacks 10)
 
 -- a draft that is read to a scenario's end
 abbrev pub Completes : Draft → ℕ → List (List ℕ) → Type 0
-Completes so_far n lines = (s : Scenario) × (stores : ℕ) × (reading_from so_far n lines ≡ Ok (draft.Open s stores))
+Completes so_far n lines = (s : Scenario) × (reading_from so_far n lines ≡ Ok (draft.Open s))
 
 is_client : (peer : DeclaredNode) → IsDeclaredNode (client peer)
 unfolding client
@@ -198,26 +189,26 @@ client_lines-complete : (config : Config) (peer : DeclaredNode) (n : ℕ) → Co
 unfolding client_lines reading_from
 client_lines-complete config peer n =
     let s : Scenario = scenario_from config peer (client peer) [] in
-    (s, 0, reading_from-plain (draft.Peered config peer) (draft.Open s 0) n (node_line (text_of fixed.Client) (client peer)) [] (client-plain peer) (opened-again config peer n (client peer) (is_client peer) (is_apart peer)))
+    (s, reading_from-plain (draft.Peered config peer) (draft.Open s) n (node_line (text_of fixed.Client) (client peer)) [] (client-plain peer) (opened-again config peer n (client peer) (is_client peer) (is_apart peer)))
 
 node_lines-complete : (config : Config) (n : ℕ) → Completes (draft.Configured config) n node_lines
 unfolding node_lines peer
 node_lines-complete config n =
     let later = client_lines-complete config peer (n + 1) in
-    (later.0, later.1, reading_from-plain (draft.Configured config) (draft.Peered config peer) n (node_line (text_of fixed.Peer) peer) (client_lines peer) peer_line-plain (peered-again config n peer (is_node false false)) ∙ later.2)
+    (later.0, reading_from-plain (draft.Configured config) (draft.Peered config peer) n (node_line (text_of fixed.Peer) peer) (client_lines peer) peer_line-plain (peered-again config n peer (is_node false false)) ∙ later.1)
 
 kind_lines-complete : (word : List ℕ) (n : ℕ) → Completes (draft.Named word) n (kind_line kind ∷ node_lines)
 kind_lines-complete word n =
     let later = node_lines-complete (config_of word kind) (n + 1) in
-    (later.0, later.1, reading_from-plain (draft.Named word) (draft.Configured (config_of word kind)) n (kind_line kind) node_lines kind_line-plain (configured-again word n kind is_kind) ∙ later.2)
+    (later.0, reading_from-plain (draft.Named word) (draft.Configured (config_of word kind)) n (kind_line kind) node_lines kind_line-plain (configured-again word n kind is_kind) ∙ later.1)
 
 -- with them a draft is a scenario
 pub missing-completes : (so_far : Draft) (n : ℕ) → Completes so_far n (missing so_far)
 unfolding missing reading_from
 missing-completes draft.Empty n =
     let later = kind_lines-complete name (n + 1) in
-    (later.0, later.1, reading_from-plain draft.Empty (draft.Named name) n (overlay_line name) (kind_line kind ∷ node_lines) overlay_line-plain (named-again n name is_name-it) ∙ later.2)
+    (later.0, reading_from-plain draft.Empty (draft.Named name) n (overlay_line name) (kind_line kind ∷ node_lines) overlay_line-plain (named-again n name is_name-it) ∙ later.1)
 missing-completes (draft.Named word) n = kind_lines-complete word n
 missing-completes (draft.Configured config) n = node_lines-complete config n
 missing-completes (draft.Peered config peer) n = client_lines-complete config peer n
-missing-completes (draft.Open s stores) n = (s, stores, refl)
+missing-completes (draft.Open s) n = (s, refl)

@@ -1,5 +1,5 @@
 -- Reading lines is reading those that say something, one after the other, where all are sound.
-use Rattle.std.proofs.Common.{◌≡◌, ℕ, ◌+◌, ◌≤◌, Bool, true, false, cond, List, [], ◌∷◌, ◌++◌, length, Option, Some, None, Result, Ok, refl, sym, ap, ◌∙◌, inl, inr, arith}
+use Rattle.std.proofs.Common.{◌≡◌, ℕ, ◌+◌, Bool, true, false, cond, List, [], ◌∷◌, ◌++◌, length, Option, Some, None, Result, Ok, refl, sym, ap, ◌∙◌, inl, inr, arith}
 use Rattle.std.specs.Prelude.{◌⊎◌, not, filter}
 use Rattle.std.specs.List.{enumerate_from, AllByRecursion}
 use Rattle.std.proofs.lemmas.Bool.{cases_Bool}
@@ -42,16 +42,6 @@ said_from-append n (line ∷ lines) more =
     elim (cases_Bool (is_passed_over line)) [
       | inl passed ↦ rw (said_from-passed n line (lines ++ more) passed, said_from-passed n line lines passed) later
       | inr says ↦ rw (said_from-said n line (lines ++ more) says, said_from-said n line lines says) (ap (λ (ls : List (ℕ × List ℕ)). (n, line) ∷ ls) later)
-    ]
-
--- no more lines say something than there are
-pub length-said_from : (n : ℕ) (lines : List (List ℕ)) → length (said_from n lines) ≤ length lines
-length-said_from n [] = rw (said_from-nil n) (omega arith)
-length-said_from n (line ∷ lines) =
-    let later = length-said_from (n + 1) lines in
-    elim (cases_Bool (is_passed_over line)) [
-      | inl passed ↦ rw (said_from-passed n line lines passed) (omega (arith, later))
-      | inr says ↦ rw (said_from-said n line lines says) (omega (arith, later))
     ]
 
 -- ---- reading them

@@ -55,14 +55,14 @@ peered-takes config n line next e =
     (a.0, sym (same_Some (draft.Peered config a.0) next a.2), parts.0, parts.1)
 
 pub opened-takes : (config : Config) (peer : DeclaredNode) (n : ℕ) (line : List ℕ) (next : Draft) → said_at (draft.Peered config peer) n line ≡ Some next
-    → (client : DeclaredNode) × (next ≡ draft.Open (scenario_from config peer client []) 0) × (line ≡ node_line (text_of fixed.Client) client) × IsDeclaredNode client × IsApart client peer
+    → (client : DeclaredNode) × (next ≡ draft.Open (scenario_from config peer client [])) × (line ≡ node_line (text_of fixed.Client) client) × IsDeclaredNode client × IsApart client peer
 unfolding said_at opened
 opened-takes config peer n line next e =
     let a = bind_some (node_at (text_of fixed.Client) line) _ next e in
     let b = bind_some (allowed (are_apart a.0 peer)) _ next a.2 in
     let parts = node_at-takes (text_of fixed.Client) line a.0 a.1 in
     let apart = are_apart-takes a.0 peer (allowed_some (are_apart a.0 peer) b.0 b.1) in
-    (a.0, sym (same_Some (draft.Open (scenario_from config peer a.0 []) 0) next b.2), parts.0, parts.1, record { numbers = apart.0; ids = apart.1 })
+    (a.0, sym (same_Some (draft.Open (scenario_from config peer a.0 [])) next b.2), parts.0, parts.1, record { numbers = apart.0; ids = apart.1 })
 
 -- ---- and backwards
 
@@ -79,6 +79,6 @@ unfolding said_at peered
 peered-again config n peer is = rw (node_at-again (text_of fixed.Peer) peer is) refl
 
 pub opened-again : (config : Config) (peer : DeclaredNode) (n : ℕ) (client : DeclaredNode) → IsDeclaredNode client → IsApart client peer
-    → said_at (draft.Peered config peer) n (node_line (text_of fixed.Client) client) ≡ Some (draft.Open (scenario_from config peer client []) 0)
+    → said_at (draft.Peered config peer) n (node_line (text_of fixed.Client) client) ≡ Some (draft.Open (scenario_from config peer client []))
 unfolding said_at opened
 opened-again config peer n client is apart = rw (node_at-again (text_of fixed.Client) client is, are_apart-again client peer apart.numbers apart.ids) refl

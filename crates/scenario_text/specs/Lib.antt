@@ -3,3 +3,4 @@ pub mod Scenarios
 pub mod Reading
 pub mod Reads
 pub mod Transcript
+pub mod Answers

@@ -12,9 +12,9 @@ Reads (Ok x) read = read ≡ Ok x
 Reads (Err (BadLine n)) read = read ≡ Err n
 Reads (Err NoMemory) read = Unit {0}
 
--- no more than n Stores and events are in a draft
+-- no more than n events are in a draft
 abbrev pub HasAtMost : ℕ → Draft → Type 0
-HasAtMost n (draft.Open s stores) = (stores ≤ n) × (length s.events ≤ n)
+HasAtMost n (draft.Open s) = length s.events ≤ n
 HasAtMost n so_far = Unit {0}
 
 -- the line of a fault is the first that is outside the grammar

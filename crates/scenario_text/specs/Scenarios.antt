@@ -1,5 +1,5 @@
 -- Which scenarios there are, and the text of each.
-use Rattle.std.specs.Prelude.{◌≡◌, ◌≢◌, ℕ, ◌+◌, ◌-◌, ◌^◌, ◌<◌, ◌≤◌, min, List, [], ◌∷◌, ◌++◌, length, map, filter, take, drop, not, true, Some}
+use Rattle.std.specs.Prelude.{◌≡◌, ◌≢◌, ℕ, ◌+◌, ◌-◌, ◌^◌, ◌<◌, ◌≤◌, List, [], ◌∷◌, ◌++◌, length, map, filter, take, drop, not, true, Option, None, Some, IfSome}
 use Rattle.std.specs.List.{flat_map, enumerate_from, AllByRecursion}
 use Rattle.std.specs.Fmt.{decimal}
 use Rattle.hex.specs.Hex.{encode_lower}
@@ -14,7 +14,13 @@ use Rattle.scenario_text.specs.declared.scenario.DeclaredNode.{DeclaredNode}
 use Rattle.scenario_text.specs.declared.scenario.Scenario.{Scenario}
 use Rattle.scenario_text.specs.declared.scenario.Event.{Event}
 use Rattle.scenario_text.specs.declared.scenario.EventKind.{EventKind}
-use Rattle.scenario_text.specs.declared.scenario.EventKind.TheVariants.{Store, Deliver}
+use Rattle.scenario_text.specs.declared.scenario.EventKind.TheVariants.{Clock, Store, Fetch, Deliver, Drain}
+use Rattle.scenario_text.specs.declared.scenario.ResourceName.{ResourceName}
+use Rattle.scenario_text.specs.declared.scenario.ResourceName.TheVariants.{Name, Id}
+use Rattle.scenario_text.specs.declared.scenario.Data.{Data}
+use Rattle.scenario_text.specs.declared.scenario.Data.TheVariants.{Nonexistent, Bytes, Fill}
+use Rattle.scenario_text.specs.declared.scenario.FetchEvent.{FetchEvent}
+use Rattle.text_words.specs.Hex.{AllBytes}
 use Rattle.scenario_text.specs.declared.scenario.StoreEvent.{StoreEvent}
 use Rattle.scenario_text.specs.declared.fixed.Fixed.TheVariants as fixed
 use Rattle.scenario_text.specs.Texts.{text_of}
@@ -29,17 +35,51 @@ kind_line kind = text_of fixed.Kind ++ decimal kind.id ++ 32 ∷ [] ++ text_of f
 unfoldable pub node_line : List ℕ → DeclaredNode → List ℕ
 node_line word node = word ++ decimal node.number ++ 32 ∷ [] ++ id_text node.node.0 ++ 32 ∷ [] ++ node.user
 
--- the line of a Store by the client to the peer, under the client's own name
+-- the word of a resource: a name behind an `@`, or the digits of its Resource-ID
+abbrev pub resource_word : ResourceName → List ℕ
+resource_word (Name name) = 64 ∷ name
+resource_word (Id resource) = id_text resource.0
+
+-- what a request of the client to the peer for a resource begins with, and a space
+unfoldable pub request_front : List ℕ → Scenario → ResourceName → List ℕ
+request_front word s resource = word ++ decimal s.client.number ++ 32 ∷ [] ++ decimal s.peer.number ++ 32 ∷ [] ++ resource_word resource ++ 32 ∷ []
+
+-- the word of a value's bytes: nonexistent, digits, or a number of bytes 0x61
+abbrev pub data_word : Data → List ℕ
+data_word Nonexistent = 45 ∷ []
+data_word (Bytes bytes) = 43 ∷ encode_lower bytes
+data_word (Fill n) = 35 ∷ decimal n
+
+-- kind=ID/GEN -:TIME:LIFE:DATA
+unfoldable pub store_group : StoreEvent → List ℕ
+store_group e = text_of fixed.Group ++ decimal e.kind ++ 47 ∷ [] ++ decimal e.generation ++ 32 ∷ [] ++ text_of fixed.Key ++ decimal e.time ++ 58 ∷ [] ++ decimal e.lifetime ++ 58 ∷ [] ++ data_word e.value
+
+-- KIND or KIND/GEN
+abbrev pub specifier_word : ℕ → Option ℕ → List ℕ
+specifier_word kind None = decimal kind
+specifier_word kind (Some generation) = decimal kind ++ 47 ∷ [] ++ decimal generation
+
+unfoldable pub clock_line : ℕ → List ℕ
+clock_line ms = text_of fixed.Clock ++ decimal ms
+
 unfoldable pub store_line : Scenario → StoreEvent → List ℕ
-store_line s e = text_of fixed.Store ++ decimal s.client.number ++ 32 ∷ [] ++ decimal s.peer.number ++ 32 ∷ 64 ∷ [] ++ s.client.user ++ 32 ∷ []
-    ++ text_of fixed.Group ++ decimal e.kind ++ 47 ∷ [] ++ text_of fixed.AnyGeneration ++ decimal e.time ++ 58 ∷ [] ++ decimal e.lifetime ++ 58 ∷ 43 ∷ [] ++ encode_lower e.value
+store_line s e = request_front (text_of fixed.Store) s e.resource ++ store_group e
+
+unfoldable pub fetch_line : Scenario → FetchEvent → List ℕ
+fetch_line s e = request_front (text_of fixed.Fetch) s e.resource ++ specifier_word e.kind e.generation
 
 unfoldable pub deliver_line : ℕ → List ℕ
 deliver_line k = text_of fixed.Deliver ++ decimal k
 
+unfoldable pub drain_line : ℕ → List ℕ
+drain_line n = text_of fixed.Drain ++ decimal n
+
 abbrev pub event_line : Scenario → EventKind → List ℕ
+event_line s (Clock ms) = clock_line ms
 event_line s (Store e) = store_line s e
+event_line s (Fetch e) = fetch_line s e
 event_line s (Deliver k) = deliver_line k
+event_line s (Drain n) = drain_line n
 
 -- the lines of the declarations, in their order
 abbrev pub declaration_lines : Scenario → List (List ℕ)
@@ -61,26 +101,45 @@ pub record IsDeclaredNode (node : DeclaredNode) : Type 0 where
   pub id_to : node.node.0 < 2 ^ 128 - 1
   pub user : IsName node.user
 
--- a Store's kind is declared, and its value has at most 100 bytes and at most the kind's size
+-- a resource's name, or a number of 128 bits
+abbrev pub IsResource : ResourceName → Type 0
+IsResource (Name name) = IsName name
+IsResource (Id resource) = resource.0 < 2 ^ 128
+
+-- at most 200,000 bytes, since a line has at most 400,000, or at most 140,001 bytes 0x61
+abbrev pub IsData : Data → Type 0
+IsData Nonexistent = Unit {0}
+IsData (Bytes bytes) = (length bytes ≤ 200000) × AllBytes bytes
+IsData (Fill n) = n ≤ 140001
+
+-- a kind that is declared
+abbrev pub IsDeclared : Config → ℕ → Type 0
+IsDeclared config id = (kind : KindDef) × (kind_of config id ≡ Some kind)
+
 pub record IsStoreEvent (config : Config) (e : StoreEvent) : Type 0 where
+  pub resource : IsResource e.resource
+  pub id : e.kind < 2 ^ 32
+  pub kind : IsDeclared config e.kind
+  pub generation : e.generation < 2 ^ 64
   pub time : e.time < 2 ^ 64
   pub lifetime : e.lifetime < 2 ^ 32
-  pub kind : (kind : KindDef) × (kind_of config e.kind ≡ Some kind) × (length e.value ≤ min 100 kind.max_size)
-  pub bytes : AllByRecursion (λ b. b < 256) e.value
+  pub bytes : IsData e.value
 
--- an event after this many Stores: only a request that was issued is delivered
-abbrev pub IsEvent : Config → ℕ → EventKind → Type 0
-IsEvent config stores (Store e) = IsStoreEvent config e
-IsEvent config stores (Deliver k) = (1 ≤ k) × (k ≤ stores)
+pub record IsFetchEvent (config : Config) (e : FetchEvent) : Type 0 where
+  pub resource : IsResource e.resource
+  pub id : e.kind < 2 ^ 32
+  pub kind : IsDeclared config e.kind
+  pub generation : IfSome e.generation (λ g. g < 2 ^ 64)
 
--- how many Stores there are after an event
-abbrev pub stores_after : ℕ → EventKind → ℕ
-stores_after stores (Store e) = stores + 1
-stores_after stores (Deliver k) = stores
+abbrev pub IsEvent : Config → EventKind → Type 0
+IsEvent config (Clock ms) = (1 ≤ ms) × (ms ≤ 1000000000)
+IsEvent config (Store e) = IsStoreEvent config e
+IsEvent config (Fetch e) = IsFetchEvent config e
+IsEvent config (Deliver k) = k < 2 ^ 64
+IsEvent config (Drain n) = (1 ≤ n) × (n ≤ 1000000)
 
-unfoldable pub AreEvents : Config → ℕ → List Event → Type 0
-AreEvents config stores [] = Unit {0}
-AreEvents config stores (e ∷ es) = IsEvent config stores e.what × AreEvents config (stores_after stores e.what) es
+abbrev pub AreEvents : Config → List Event → Type 0
+AreEvents config events = AllByRecursion (λ e. IsEvent config e.what) events
 
 -- a scenario within its limits: one kind, one peer, one client of other number and Node-ID, and events
 pub record IsScenario (s : Scenario) : Type 0 where
@@ -91,7 +150,7 @@ pub record IsScenario (s : Scenario) : Type 0 where
   pub client : IsDeclaredNode s.client
   pub numbers : s.client.number ≢ s.peer.number
   pub ids : s.client.node.0 ≢ s.peer.node.0
-  pub events : AreEvents s.config 0 s.events
+  pub events : AreEvents s.config s.events
 
 -- the lines that say something, each with its number
 unfoldable pub said : List (List ℕ) → List (ℕ × List ℕ)

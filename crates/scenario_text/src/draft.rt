@@ -15,6 +15,6 @@ pub enum Draft {
     Configured(Config),
     /// A peer too.
     Peered(Config, DeclaredNode),
-    /// A client too, and the events so far, with the number of Stores among them.
-    Open(Scenario, u64),
+    /// A client too, and the events so far.
+    Open(Scenario),
 }

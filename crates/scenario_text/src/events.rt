@@ -1,106 +1,58 @@
 //! The lines of events.
 
-ghost use Rattle.std.specs.Prelude.{◌≡◌, ◌≤◌, ◌<◌, ◌^◌, option_map, IfSome, IfOk};
-ghost use Rattle.std.specs.Option.{option_copied};
-ghost use Rattle.scenario_text.specs.Reading.{addressed_at, group_at, value_parts, value_at, store_at, deliver_at};
+ghost use Rattle.std.specs.Prelude.{◌≡◌, ◌≤◌, ◌<◌, ◌^◌, IfOk};
+ghost use Rattle.scenario_text.specs.Texts.{text_of};
+ghost use Rattle.scenario_text.specs.Reading.{number_behind, other_at, event_at};
 
-use crate::fields::{number_before, past_number};
 use crate::fixed::Fixed;
-use crate::scenario::{Scenario, StoreEvent};
-use data_models::{Config, KindDef};
+use crate::requests::{fetch_at, store_at};
+use crate::scenario::{EventKind, Scenario};
 use reload_base::NoMemory;
 use std::alloc::Global;
-use text_words::{allowed, behind, decimal_of, hex_of};
+use text_words::{allowed, behind, decimal_of};
 
-// The most bytes of a value in a scenario.
-const MOST_VALUE: usize = 100;
+// The most milliseconds of one move of the clock.
+const MOST_CLOCK: u64 = 1_000_000_000;
 
-// What is behind `store C P @NAME `, with the scenario's own client, peer and client's name.
-#[tactic(auto, unfolding(crate::specs::Reading::addressed_at))]
-fn addressed_at<'a>(s: &Scenario, line: &'a [u8]) -> Option<&'a [u8]>
-    ensures { option_copied result ≡ addressed_at s.now line.now }
+// The most deliveries of one drain.
+const MOST_DRAIN: u64 = 1_000_000;
+
+// A number from `least` to `most` behind a word.
+#[tactic(auto, unfolding(crate::specs::Reading::number_behind))]
+fn number_behind(word: Fixed, least: u64, most: u64, line: &[u8]) -> Option<u64>
+    ensures { result ≡ number_behind (text_of word) least most line.now }
 {
-    let rest = behind(Fixed::Store.text(), line)?;
-    let rest = past_number(b' ', s.client.number, rest)?;
-    let rest = past_number(b' ', s.peer.number, rest)?;
-    let rest = behind(b"@", rest)?;
-    let rest = behind(s.client.user.as_slice(), rest)?;
-    behind(b" ", rest)
+    let digits = behind(word.text(), line)?;
+    let n = decimal_of(most, digits)?;
+    allowed(least <= n)?;
+    Some(n)
 }
 
-// The Kind-ID of a group, its kind, and what is behind its counter.
-#[tactic(auto, unfolding(crate::specs::Reading::group_at))]
-fn group_at<'a>(config: &Config, bytes: &'a [u8]) -> Option<(u64, KindDef, &'a [u8])>
-    ensures value { option_map (λ r. (r.0, r.1, r.2.now)) result ≡ group_at config.now bytes.now }
-    ensures within { IfSome result (λ r. r.0 < 2 ^ 32) }
+// The events that aren't requests: `deliver K`, `drain N` and `clock MS`.
+#[tactic(auto, unfolding(crate::specs::Reading::other_at))]
+fn other_at(line: &[u8]) -> Option<EventKind>
+    ensures { result ≡ other_at line.now }
 {
-    let rest = behind(Fixed::Group.text(), bytes)?;
-    let (id, rest) = number_before(b'/', 0, u32::MAX as u64, rest)?;
-    let kind = config.kind(id as u32)?;
-    let rest = behind(Fixed::AnyGeneration.text(), rest)?;
-    Some((id, kind, rest))
-}
-
-// The storage time, the lifetime and the digits of a value.
-#[tactic(auto, unfolding(crate::specs::Reading::value_parts))]
-fn value_parts(bytes: &[u8]) -> Option<(u64, u64, &[u8])>
-    ensures value { option_map (λ r. (r.0, r.1, r.2.now)) result ≡ value_parts bytes.now }
-    ensures within { IfSome result (λ r. r.1 < 2 ^ 32) }
-{
-    let (time, rest) = number_before(b':', 0, u64::MAX, bytes)?;
-    let (lifetime, rest) = number_before(b':', 0, u32::MAX as u64, rest)?;
-    let digits = behind(b"+", rest)?;
-    Some((time, lifetime, digits))
-}
-
-// The value of a kind, of at most 100 bytes and at most the kind's size.
-#[tactic(auto, unfolding(crate::specs::Reading::value_at))]
-fn value_at(
-    alloc: Global,
-    id: u32,
-    kind: &KindDef,
-    bytes: &[u8],
-) -> Result<Option<StoreEvent>, NoMemory>
-    ensures { IfOk result (λ event. event ≡ value_at id kind.now bytes.now) }
-{
-    let Some((time, lifetime, digits)) = value_parts(bytes) else {
-        return Ok(None);
-    };
-    let Some(value) = hex_of(alloc, digits)? else {
-        return Ok(None);
-    };
-    if value.len() > MOST_VALUE.min(kind.max_size as usize) {
-        return Ok(None);
+    if let Some(k) = number_behind(Fixed::Deliver, 0, u64::MAX, line) {
+        return Some(EventKind::Deliver(k));
     }
-    Ok(Some(StoreEvent {
-        kind: id,
-        time,
-        lifetime: lifetime as u32,
-        value,
-    }))
+    if let Some(n) = number_behind(Fixed::Drain, 1, MOST_DRAIN, line) {
+        return Some(EventKind::Drain(n));
+    }
+    let ms = number_behind(Fixed::Clock, 1, MOST_CLOCK, line)?;
+    Some(EventKind::Clock(ms))
 }
 
-/// The Store of `store C P @NAME kind=ID/0 -:TIME:LIFE:+HEX`.
-#[tactic(auto, unfolding(crate::specs::Reading::store_at))]
-pub fn store_at(alloc: Global, s: &Scenario, line: &[u8]) -> Result<Option<StoreEvent>, NoMemory>
-    ensures { IfOk result (λ event. event ≡ store_at s.now line.now) }
+/// The event of a line, where it spells one.
+#[tactic(auto, unfolding(crate::specs::Reading::event_at))]
+pub fn event_at(alloc: Global, s: &Scenario, line: &[u8]) -> Result<Option<EventKind>, NoMemory>
+    ensures { IfOk result (λ what. what ≡ event_at s.now line.now) }
 {
-    let Some(bytes) = addressed_at(s, line) else {
-        return Ok(None);
-    };
-    let Some((id, kind, bytes)) = group_at(&s.config, bytes) else {
-        return Ok(None);
-    };
-    value_at(alloc, id as u32, &kind, bytes)
-}
-
-/// The number of `deliver K`, from 1 to the number of Stores so far.
-#[tactic(auto, unfolding(crate::specs::Reading::deliver_at))]
-pub fn deliver_at(stores: u64, line: &[u8]) -> Option<u64>
-    ensures { result ≡ deliver_at stores line.now }
-{
-    let digits = behind(Fixed::Deliver.text(), line)?;
-    let k = decimal_of(stores, digits)?;
-    allowed(1 <= k)?;
-    Some(k)
+    if let Some(store) = store_at(alloc, s, line)? {
+        return Ok(Some(EventKind::Store(store)));
+    }
+    if let Some(fetch) = fetch_at(alloc, s, line)? {
+        return Ok(Some(EventKind::Fetch(fetch)));
+    }
+    Ok(other_at(line))
 }

@@ -8,11 +8,17 @@ mod fault;
 mod fields;
 mod fixed;
 mod reading;
+mod requests;
 mod scenario;
 mod transcript;
 
 pub use fault::TextFault;
 pub use fixed::Fixed;
 pub use reading::read_scenario;
-pub use scenario::{DeclaredNode, Event, EventKind, Scenario, StoreEvent};
-pub use transcript::{put_answer_line, put_bad_line, put_decide_line, put_echo, put_end_line};
+pub use scenario::{
+    Data, DeclaredNode, Event, EventKind, FetchEvent, ResourceName, Scenario, StoreEvent,
+};
+pub use transcript::{
+    DecisionLine, Told, put_answer_line, put_bad_line, put_decide_line, put_echo, put_end_line,
+    put_refused_line,
+};

@@ -3,16 +3,16 @@
 ghost use Rattle.std.specs.Prelude.{◌≡◌, ℕ, ◌+◌, ◌<◌, ◌≤◌, ◌^◌, length, IfOk, IfErr, IfSome, ◌-◌, option_map, Option, Some, Ok};
 ghost use Rattle.text_words.specs.Lines.{lines_of};
 ghost use Rattle.scenario_text.specs.Scenarios.{IsTextOf};
-ghost use Rattle.scenario_text.specs.Reading.{named, configured, peered, opened, event_at, with_line, said_at, line_at, whole_or_bad, reading_on, reading};
+ghost use Rattle.scenario_text.specs.Reading.{named, configured, peered, opened, with_line, said_at, line_at, whole_or_bad, reading};
 ghost use Rattle.scenario_text.specs.Reads.{Reads, IsBad, HasAtMost};
 ghost use Rattle.scenario_text.specs.declared.scenario.Scenario.{Scenario};
 
 use crate::declarations::{kind_at, name_at, node_at};
 use crate::draft::Draft;
-use crate::events::{deliver_at, store_at};
+use crate::events::event_at;
 use crate::fault::TextFault;
 use crate::fixed::Fixed;
-use crate::scenario::{DeclaredNode, Event, EventKind, Scenario};
+use crate::scenario::{DeclaredNode, Event, Scenario};
 use data_models::Config;
 use reload_base::{Bytes, List, NoMemory};
 use std::alloc::Global;
@@ -74,57 +74,25 @@ fn opened(
         return Ok(None);
     }
     let events = List::new(alloc);
-    Ok(Some(Draft::Open(
-        Scenario {
-            config,
-            peer,
-            client,
-            events,
-        },
-        0,
-    )))
-}
-
-// An event and the number of Stores after it, from a line after this many Stores.
-#[tactic(auto, unfolding(crate::specs::Reading::event_at))]
-fn event_at(
-    alloc: Global,
-    s: &Scenario,
-    stores: u64,
-    line: &[u8],
-) -> Result<Option<(EventKind, u64)>, NoMemory>
-    requires { stores < 2 ^ 63 }
-    ensures value { IfOk result (λ event. event ≡ event_at s.now stores line.now) }
-    ensures counted { IfOk result (λ event. IfSome event (λ e. e.1 ≤ stores + 1)) }
-{
-    match store_at(alloc, s, line)? {
-        Some(store) => Ok(Some((EventKind::Store(store), stores + 1))),
-        None => match deliver_at(stores, line) {
-            None => Ok(None),
-            Some(k) => Ok(Some((EventKind::Deliver(k), stores))),
-        },
-    }
+    Ok(Some(Draft::Open(Scenario {
+        config,
+        peer,
+        client,
+        events,
+    })))
 }
 
 #[tactic(auto, unfolding(crate::specs::Reading::with_line))]
-fn with_line(
-    alloc: Global,
-    mut s: Scenario,
-    stores: u64,
-    n: u64,
-    line: &[u8],
-) -> Result<Option<Draft>, NoMemory>
-    requires few { stores < n }
-    requires counted { n < 2 ^ 63 }
-    requires events { length s.events < n }
-    ensures value { IfOk result (λ next. next ≡ with_line s stores n line.now) }
+fn with_line(alloc: Global, mut s: Scenario, n: u64, line: &[u8]) -> Result<Option<Draft>, NoMemory>
+    requires { length s.events < n }
+    ensures value { IfOk result (λ next. next ≡ with_line s n line.now) }
     ensures few { IfOk result (λ next. IfSome next (HasAtMost n)) }
 {
-    let Some((what, stores)) = event_at(alloc, &s, stores, line)? else {
+    let Some(what) = event_at(alloc, &s, line)? else {
         return Ok(None);
     };
     s.events.push(Event { line: n, what })?;
-    Ok(Some(Draft::Open(s, stores)))
+    Ok(Some(Draft::Open(s)))
 }
 
 // The draft after line n, where that is in the grammar.
@@ -140,7 +108,7 @@ fn said_at(alloc: Global, so_far: Draft, n: u64, line: &[u8]) -> Result<Option<D
         Draft::Named(name) => configured(alloc, name, line),
         Draft::Configured(config) => peered(alloc, config, line),
         Draft::Peered(config, peer) => opened(alloc, config, peer, line),
-        Draft::Open(s, stores) => with_line(alloc, s, stores, n, line),
+        Draft::Open(s) => with_line(alloc, s, n, line),
     }
 }
 
@@ -167,7 +135,7 @@ fn finished(so_far: Draft, n: u64, rest: &[u8]) -> Result<Scenario, TextFault>
     ensures few { (most : ℕ) → HasAtMost most so_far → IfOk result (λ s. length s.events ≤ most) }
 {
     match so_far {
-        Draft::Open(s, _) if rest.is_empty() => Ok(s),
+        Draft::Open(s) if rest.is_empty() => Ok(s),
         _ => Err(TextFault::BadLine(n)),
     }
 }

@@ -2,7 +2,7 @@
 
 use data_models::Config;
 use reload_base::{Bytes, List};
-use reload_ids::NodeId;
+use reload_ids::{NodeId, ResourceId};
 
 /// A node that a scenario declares.
 #[derive(Debug, Drop)]
@@ -33,20 +33,59 @@ pub struct Event {
 /// What happens.
 #[derive(Debug, Drop)]
 pub enum EventKind {
-    /// The client asks the peer to store a value under its own name.
+    /// The clock moves on by so many milliseconds, 1 to 1,000,000,000.
+    Clock(u64),
+    /// The client asks the peer to store a value.
     Store(StoreEvent),
+    /// The client asks the peer for a value.
+    Fetch(FetchEvent),
     /// The peer hears the request of this number, counted from 1.
     Deliver(u64),
+    /// So many times, 1 to 1,000,000, the peer hears the lowest request that it didn't hear yet.
+    Drain(u64),
+}
+
+/// How a scenario names a resource.
+#[derive(Debug, Drop)]
+pub enum ResourceName {
+    /// By a name, whose Resource-ID is meant.
+    Name(Bytes),
+    /// By its Resource-ID.
+    Id(ResourceId),
 }
 
 /// A value to store.
 #[derive(Debug, Drop)]
 pub struct StoreEvent {
+    pub resource: ResourceName,
     /// The Kind-ID.
     pub kind: u32,
+    /// The generation counter that is asked for, or 0 for any.
+    pub generation: u64,
     /// The storage time in milliseconds.
     pub time: u64,
     /// The lifetime in seconds.
     pub lifetime: u32,
-    pub value: Bytes,
+    pub value: Data,
+}
+
+/// The bytes of a value.
+#[derive(Debug, Drop)]
+pub enum Data {
+    /// The value doesn't exist: it takes away the one before.
+    Nonexistent,
+    /// At most 200,000 bytes.
+    Bytes(Bytes),
+    /// So many bytes 0x61, at most 140,001.
+    Fill(u32),
+}
+
+/// A value to fetch.
+#[derive(Debug, Drop)]
+pub struct FetchEvent {
+    pub resource: ResourceName,
+    /// The Kind-ID.
+    pub kind: u32,
+    /// The generation counter that the client knows, where it says one.
+    pub generation: Option<u64>,
 }

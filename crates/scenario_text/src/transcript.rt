@@ -7,13 +7,13 @@ mod request;
 
 ghost use Rattle.std.specs.Prelude.{◌≡◌, ◌++◌, OnOk};
 ghost use Rattle.text_words.specs.Lines.{ended};
-ghost use Rattle.scenario_text.specs.Transcript.{end_line, bad_line};
+ghost use Rattle.scenario_text.specs.Transcript.{end_line, bad_line, refused_line};
 
 use crate::fixed::Fixed;
-pub use answer::put_answer_line;
+pub use answer::{Told, put_answer_line};
 pub use declarations::put_echo;
 use reload_base::{Bytes, NoMemory};
-pub use request::put_decide_line;
+pub use request::{DecisionLine, put_decide_line};
 use text_words::put_decimal;
 
 /// Appends `end requests=Q decisions=D`.
@@ -35,5 +35,16 @@ pub fn put_bad_line(out: &mut Bytes, n: u64) -> Result<(), NoMemory>
 {
     out.extend(Fixed::BadLine.text())?;
     put_decimal(out, n)?;
+    out.extend(b"\n")
+}
+
+/// Appends `refused N no-such-frame`: the event at line N names a request that wasn't issued.
+#[tactic(auto, unfolding(crate::specs::Transcript::refused_line))]
+pub fn put_refused_line(out: &mut Bytes, n: u64) -> Result<(), NoMemory>
+    ensures { OnOk result (out.new ≡ out.old ++ ended (refused_line n)) }
+{
+    out.extend(Fixed::Refused.text())?;
+    put_decimal(out, n)?;
+    out.extend(Fixed::NoSuchFrame.text())?;
     out.extend(b"\n")
 }
