@@ -1,3 +1,4 @@
+pub mod Firsts
 pub mod Keeps
 pub mod Loops
 pub mod Prefixes

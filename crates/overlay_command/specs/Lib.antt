@@ -1,3 +1,4 @@
 pub mod Bounds
 pub mod Desks
 pub mod Top
+pub mod Firsts

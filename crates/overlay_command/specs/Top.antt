@@ -1,9 +1,14 @@
 -- What a call of `overlay` has read and written, by the status that it answers.
-use Rattle.std.specs.Prelude.{◌≡◌, ℕ, ◌<◌, ◌≤◌, List, [], ◌∷◌, length, take, map, codes, Option, IfSome, ◌⊎◌, String, string_bytes}
+use Rattle.std.specs.Prelude.{◌≡◌, ℕ, ◌<◌, ◌≤◌, List, [], ◌∷◌, ◌++◌, length, take, map, codes, Option, IfSome, ◌⊎◌, String, string_bytes}
 use Rattle.std.specs.Io.KnownBytes.{Appends, Consumes, IsAtEnd}
 use Rattle.std.specs.Global.{Global}
 use Rattle.text_words.specs.Lines.{ended}
-use Rattle.storage_model.specs.Decisions.{IsLegal, IsOnce}
+use Rattle.std.specs.List.{AllByRecursion}
+use Rattle.data_models.specs.declared.config.Config.{Config}
+use Rattle.storage_model.specs.Records.{record_in}
+use Rattle.storage_model.specs.Fetches.{held_in, given_for}
+use Rattle.storage_model.specs.Laws.{map_of, last_put}
+use Rattle.storage_model.specs.Decisions.{Decision, IsLegal, IsOnce}
 use Rattle.scenario_text.specs.declared.scenario.Scenario.{Scenario}
 use Rattle.overlay_command.specs.declared.status.Status.{Status}
 use Rattle.overlay_command.specs.declared.status.Status.TheVariants.{Done, Usage, ReadFault, WriteFault, NoMemory, BadLine, TooLong}
@@ -21,12 +26,18 @@ IsRun words = map string_bytes words ≡ codes "run" ∷ []
 abbrev pub most_bytes : ℕ
 most_bytes = 16777216
 
+-- at any moment a Fetch is given for a resource the value that an acting Store last put there, if that hasn't expired, else a gap
+abbrev pub GivesLastPuts : Config → List Decision → Type 0
+GivesLastPuts config ds = (before after : List Decision) → before ++ after ≡ ds → (now resource kind : ℕ) → AllByRecursion (λ d. d.time ≤ now) before
+    → given_for now (held_in (record_in (map_of config before) resource).kinds kind []) ≡ given_for now (last_put config before resource kind)
+
 -- the run of a scenario: the transcript is due, and the decisions are those of one map that each Store changes at most once
 pub record IsRunOf (text due : List ℕ) (s : Scenario) : Type 0 where
   pub spells : IsTextOf text s
   pub written : due ≡ transcript s
   pub legal : IsLegal s.config (decisions s)
   pub once : IsOnce s.config (decisions s)
+  pub gives : GivesLastPuts s.config (decisions s)
 
 -- what is due whole for a text that was read, under the status that answers it
 abbrev pub IsDue : Status → List ℕ → List ℕ → Type 0

@@ -1,94 +1,73 @@
-//! The desk: the requests that were issued, and the one peer's records.
+//! The desk: the clock, the requests that were issued, and the one peer's records.
 
-ghost use Rattle.std.specs.Prelude.{◌≡◌, ℕ, ◌+◌, ◌<◌, ◌≤◌, ◌^◌, ◌++◌, length, OnOk, IfOk, IfSome, option_map};
-ghost use Rattle.overlay_command.specs.Desks.{empty_desk, value_of, request_of, request_at, issued, delivered, stepped};
-ghost use Rattle.overlay_command.specs.Bounds.{IsKept, IsSmall};
+ghost use Rattle.std.specs.Prelude.{◌≡◌, ℕ, ◌+◌, ◌<◌, ◌≤◌, ◌^◌, ◌++◌, OnOk, IfOk};
+ghost use Rattle.storage_model.specs.Records.{record_in};
+ghost use Rattle.storage_model.specs.Verdict.{changed};
+ghost use Rattle.storage_model.specs.Decisions.{effect_of};
+ghost use Rattle.kind_store.specs.Counted.{IsCounted};
+ghost use Rattle.scenario_text.specs.Answers.{answer_of};
+ghost use Rattle.overlay_command.specs.Desks.{empty_desk, heard_at, delivered, drained, issued, stepped};
+ghost use Rattle.overlay_command.specs.Bounds.{IsSteady, IsKept, IsSmall};
 
-use data_models::{SlotKey, StoredData};
+use crate::heard::Heard;
+use crate::requests::{fetch_of, store_of};
+use data_models::Config;
 use kind_store::Shelf;
-use reload_base::{Bytes, List, NoMemory, TryCopy};
-use reload_ids::{ResourceId, resource_of};
-use scenario_text::{EventKind, Scenario, StoreEvent, put_answer_line, put_decide_line};
+use reload_base::{Bytes, List, NoMemory};
+use reload_ids::ResourceId;
+use scenario_text::{
+    DecisionLine, Event, EventKind, Scenario, Told, put_answer_line, put_decide_line,
+    put_refused_line,
+};
 use std::alloc::Global;
-use storage_model::{AskedKind, StoreAsked, Value};
+use storage_model::Asked;
 
-/// A request, and the resource that it is for.
+/// A request that was issued.
 #[derive(Debug, Drop)]
 pub struct Issued {
     pub resource: ResourceId,
-    pub asked: StoreAsked,
+    /// The transaction id.
+    pub id: u64,
+    pub asked: Asked,
 }
 
 /// What a run has come to.
 #[derive(Drop)]
 pub struct Desk {
+    /// In milliseconds.
+    pub clock: u64,
     /// The requests in the order of their issue: the first has number 1.
     pub requests: List<Issued>,
-    /// Whether the client has its answer, for each request.
-    pub answered: List<bool>,
+    /// Whether the peer heard each request, and so its client has an answer.
+    pub heard: Heard,
     pub shelf: Shelf,
     /// How many decisions there were.
     pub decisions: u64,
 }
 
-// The bytes of a StoredData beside its value.
-const FIXED_SIZE: u32 = 94;
-
-// The value of a Store, signed by its user.
-fn value_of(alloc: Global, user: &Bytes, e: &StoreEvent) -> Result<Value, NoMemory>
-    requires { length e.now.value ≤ 100 }
-    ensures { IfOk result (λ v. v ≡ value_of user.now e.now) }
+// What the peer makes of a request, with its records.
+fn decide(
+    alloc: Global,
+    shelf: &mut Shelf,
+    config: &Config,
+    now: u64,
+    request: &Issued,
+) -> Result<Told, NoMemory>
+    requires clock { now < 2 ^ 62 }
+    requires counted { IsCounted (record_in shelf.old request.now.resource.0) }
+    ensures answer { IfOk result (λ told. answer_of told ≡ (effect_of config.now now request.now.resource.0 (record_in shelf.old request.now.resource.0) request.now.asked).answer) }
+    ensures shelf { OnOk result (shelf.new ≡ changed shelf.old request.now.resource.0 (effect_of config.now now request.now.resource.0 (record_in shelf.old request.now.resource.0) request.now.asked).next) }
 {
-    let size = FIXED_SIZE + e.value.len() as u32;
-    let stored = StoredData {
-        key: SlotKey::Whole,
-        storage_time: e.time,
-        lifetime: e.lifetime,
-        present: true,
-        value: e.value.copy(alloc)?,
-    };
-    Ok(Value {
-        stored,
-        user: user.copy(alloc)?,
-        size,
-    })
-}
-
-// The client's request of this number.
-#[tactic(auto, unfolding(crate::specs::Desks::request_of))]
-fn request_of(alloc: Global, s: &Scenario, number: u64, e: &StoreEvent) -> Result<Issued, NoMemory>
-    requires number { number ≤ 2 ^ 62 + 1 }
-    requires client { s.now.client.number ≤ 9999 }
-    requires small { length e.now.value ≤ 100 }
-    ensures { IfOk result (λ i. i ≡ request_of s.now number e.now) }
-{
-    let mut values = List::new(alloc);
-    values.push(value_of(alloc, &s.client.user, e)?)?;
-    let mut kinds = List::new(alloc);
-    kinds.push(AskedKind {
-        kind: e.kind,
-        generation: 0,
-        values: Some(values),
-    })?;
-    Ok(Issued {
-        resource: resource_of(s.client.user.as_slice()),
-        asked: StoreAsked {
-            origin: s.client.node,
-            id: u64::from(s.client.number) * 4_294_967_296 + number,
-            kinds,
-        },
-    })
-}
-
-// The request of a number, counted from 1, and its place.
-#[tactic(auto, unfolding(crate::specs::Desks::request_at))]
-fn request_at(requests: &[Issued], k: u64) -> Option<(usize, &Issued)>
-    ensures value { option_map (λ r. r.1.now) result ≡ request_at requests.now k }
-    ensures place { IfSome result (λ r. (r.0 + 1 ≡ k) × (r.0 < length requests.now)) }
-{
-    let index = k.checked_sub(1)? as usize;
-    let request = requests.get(index)?;
-    Some((index, request))
+    match &request.asked {
+        Asked::Store(q) => Ok(Told::Store(shelf.decide_store(config, now, request.resource, q)?)),
+        Asked::Fetch(q) => Ok(Told::Fetch(shelf.answer_fetch(
+            alloc,
+            config,
+            now,
+            request.resource,
+            q,
+        )?)),
+    }
 }
 
 impl Desk {
@@ -97,58 +76,105 @@ impl Desk {
         ensures { result ≡ empty_desk }
     {
         Desk {
+            clock: 0,
             requests: List::new(alloc),
-            answered: List::new(alloc),
+            heard: Heard::new(alloc),
             shelf: Shelf::new(alloc),
             decisions: 0,
         }
     }
 
-    // A Store is issued as the next request.
-    #[tactic(auto, unfolding(crate::specs::Desks::issued))]
-    fn issue(&mut self, alloc: Global, s: &Scenario, e: &StoreEvent) -> Result<(), NoMemory>
-        requires few { length self.old.requests ≤ 2 ^ 62 }
-        requires client { s.now.client.number ≤ 9999 }
-        requires small { length e.now.value ≤ 100 }
-        ensures { OnOk result (self.new ≡ (issued s.now self.old e.now).desk) }
+    // The peer hears the request at a place: it decides, and the client takes the first answer.
+    #[tactic(auto, unfolding(crate::specs::Desks::heard_at, crate::specs::Desks::hearing, crate::specs::Desks::after_decision, crate::specs::Desks::decision_on, crate::specs::Desks::decision_text))]
+    fn hear(
+        &mut self,
+        alloc: Global,
+        s: &Scenario,
+        at: usize,
+        out: &mut Bytes,
+    ) -> Result<(), NoMemory>
+        requires steady { IsSteady self.old }
+        requires few { self.old.decisions < 2 ^ 62 }
+        requires clock { self.old.clock < 2 ^ 62 }
+        ensures desk { OnOk result (self.new ≡ (heard_at s.now self.old at).desk) }
+        ensures text { OnOk result (out.new ≡ out.old ++ (heard_at s.now self.old at).text) }
     {
-        let number = self.requests.len() as u64 + 1;
-        self.requests.push(request_of(alloc, s, number, e)?)?;
-        self.answered.push(false)
-    }
-
-    // A request is delivered: the peer decides, and hands the answer to the client at once, who takes the first.
-    #[tactic(auto, unfolding(crate::specs::Desks::delivered, crate::specs::Desks::after_decision, crate::specs::Desks::decision_on, crate::specs::Desks::decision_text))]
-    fn deliver(&mut self, s: &Scenario, k: u64, out: &mut Bytes) -> Result<(), NoMemory>
-        requires kept { IsKept (2 ^ 62) self.old }
-        ensures desk { OnOk result (self.new ≡ (stepped s.now self.old (EventKind.Deliver k)).desk) }
-        ensures text { OnOk result (out.new ≡ out.old ++ (stepped s.now self.old (EventKind.Deliver k)).text) }
-    {
-        let Some((index, request)) = request_at(self.requests.as_slice(), k) else {
+        let Some(request) = self.requests.get(at) else {
             return Ok(());
         };
-        let asked = &request.asked;
-        let verdict = self
-            .shelf
-            .decide_store(&s.config, 0, request.resource, asked)?;
-        let counters = verdict.counters.as_slice();
-        let (peer, client) = (s.peer.number, s.client.number);
-        put_decide_line(
-            out,
-            peer,
-            0,
-            request.resource,
-            client,
-            asked,
-            verdict.code,
-            counters,
-        )?;
-        if !self.answered.get(index).copied().unwrap_or(false) {
-            put_answer_line(out, asked.id, verdict.code, counters)?;
+        let answer = decide(alloc, &mut self.shelf, &s.config, self.clock, request)?;
+        let line = DecisionLine {
+            peer: s.peer.number,
+            time: self.clock,
+            resource: request.resource,
+            origin: s.client.number,
+            id: request.id,
+            asked: &request.asked,
+            answer: &answer,
+        };
+        put_decide_line(out, &line)?;
+        if !self.heard.get(at) {
+            put_answer_line(out, request.id, &answer)?;
         }
-        self.answered.set(index, true);
+        self.heard.set(at);
         self.decisions += 1;
         Ok(())
+    }
+
+    // The request of a number is delivered; one that wasn't issued is refused.
+    #[tactic(auto, unfolding(crate::specs::Desks::delivered))]
+    fn deliver(
+        &mut self,
+        alloc: Global,
+        s: &Scenario,
+        line: u64,
+        k: u64,
+        out: &mut Bytes,
+    ) -> Result<(), NoMemory>
+        requires steady { IsSteady self.old }
+        requires few { self.old.decisions < 2 ^ 62 }
+        requires clock { self.old.clock < 2 ^ 62 }
+        ensures desk { OnOk result (self.new ≡ (delivered s.now self.old line k).desk) }
+        ensures text { OnOk result (out.new ≡ out.old ++ (delivered s.now self.old line k).text) }
+    {
+        if k == 0 || k > self.requests.len() as u64 {
+            return put_refused_line(out, line);
+        }
+        self.hear(alloc, s, k as usize - 1, out)
+    }
+
+    // The lowest request that wasn't heard is heard, so many times, or until there is none.
+    fn drain(
+        &mut self,
+        alloc: Global,
+        s: &Scenario,
+        n: u64,
+        out: &mut Bytes,
+    ) -> Result<(), NoMemory>
+        requires steady { IsSteady self.old }
+        requires few { self.old.decisions + n < 2 ^ 62 }
+        requires clock { self.old.clock < 2 ^ 62 }
+        ensures desk { OnOk result (self.new ≡ (drained s.now n self.old).desk) }
+        ensures text { OnOk result (out.new ≡ out.old ++ (drained s.now n self.old).text) }
+    {
+        let mut left = n;
+        'times: while left > 0 {
+            let Some(at) = self.heard.first_unheard() else {
+                return Ok(());
+            };
+            self.hear(alloc, s, at, out)?;
+            left -= 1;
+        }
+        Ok(())
+    }
+
+    // A request is issued as the next one.
+    #[tactic(auto, unfolding(crate::specs::Desks::issued))]
+    fn issue(&mut self, request: Issued) -> Result<(), NoMemory>
+        ensures { OnOk result (self.new ≡ (issued self.old request).desk) }
+    {
+        self.requests.push(request)?;
+        self.heard.push()
     }
 
     /// One event of a scenario. Its lines are appended.
@@ -157,18 +183,25 @@ impl Desk {
         &mut self,
         alloc: Global,
         s: &Scenario,
-        what: &EventKind,
+        e: &Event,
         out: &mut Bytes,
     ) -> Result<(), NoMemory>
-        requires kept { IsKept (2 ^ 62) self.old }
-        requires small { IsSmall what.now }
+        requires kept { IsKept (2 ^ 31) self.old }
+        requires small { IsSmall e.now.what }
         requires client { s.now.client.number ≤ 9999 }
-        ensures desk { OnOk result (self.new ≡ (stepped s.now self.old what.now).desk) }
-        ensures text { OnOk result (out.new ≡ out.old ++ (stepped s.now self.old what.now).text) }
+        ensures desk { OnOk result (self.new ≡ (stepped s.now self.old e.now.line e.now.what).desk) }
+        ensures text { OnOk result (out.new ≡ out.old ++ (stepped s.now self.old e.now.line e.now.what).text) }
     {
-        match what {
-            EventKind::Store(e) => self.issue(alloc, s, e),
-            EventKind::Deliver(k) => self.deliver(s, *k, out),
+        let number = self.requests.len() as u64 + 1;
+        match &e.what {
+            EventKind::Clock(ms) => {
+                self.clock += *ms;
+                Ok(())
+            }
+            EventKind::Store(store) => self.issue(store_of(alloc, s, number, store)?),
+            EventKind::Fetch(fetch) => self.issue(fetch_of(alloc, s, number, fetch)?),
+            EventKind::Deliver(k) => self.deliver(alloc, s, e.line, *k, out),
+            EventKind::Drain(n) => self.drain(alloc, s, *n, out),
         }
     }
 }

@@ -3,6 +3,8 @@
 
 mod command;
 mod desk;
+mod heard;
+mod requests;
 mod run;
 mod status;
 

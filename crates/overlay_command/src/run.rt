@@ -11,7 +11,7 @@ ghost use Rattle.overlay_command.specs.Desks.{stepped, transcript};
 
 use crate::desk::Desk;
 use reload_base::{Bytes, Sink, WriteError, write_all};
-use scenario_text::{EventKind, Scenario, put_echo, put_end_line};
+use scenario_text::{Event, Scenario, put_echo, put_end_line};
 use std::alloc::Global;
 
 // Writes the declarations.
@@ -30,21 +30,21 @@ fn write_echo<K: Sink>(alloc: Global, s: &Scenario, sink: &mut K) -> Result<(), 
 fn write_event<K: Sink>(
     alloc: Global,
     s: &Scenario,
-    what: &EventKind,
+    event: &Event,
     desk: &mut Desk,
     sink: &mut K,
 ) -> Result<(), WriteError>
-    requires kept { IsKept (2 ^ 62) desk.old }
-    requires small { IsSmall what.now }
+    requires kept { IsKept (2 ^ 31) desk.old }
+    requires small { IsSmall event.now.what }
     requires client { s.now.client.number ≤ 9999 }
-    ensures desk { OnOk result (desk.new ≡ (stepped s.now desk.old what.now).desk) }
-    ensures whole { OnOk result (Appends (K.written sink.old) (K.written sink.new) (stepped s.now desk.old what.now).text) }
-    ensures prefix { OnErr result ((n : ℕ) × (n ≤ length (stepped s.now desk.old what.now).text) × Appends (K.written sink.old) (K.written sink.new) (take n (stepped s.now desk.old what.now).text)) }
+    ensures desk { OnOk result (desk.new ≡ (stepped s.now desk.old event.now.line event.now.what).desk) }
+    ensures whole { OnOk result (Appends (K.written sink.old) (K.written sink.new) (stepped s.now desk.old event.now.line event.now.what).text) }
+    ensures prefix { OnErr result ((n : ℕ) × (n ≤ length (stepped s.now desk.old event.now.line event.now.what).text) × Appends (K.written sink.old) (K.written sink.new) (take n (stepped s.now desk.old event.now.line event.now.what).text)) }
     ensures later { K.faults sink.old ≤ K.faults sink.new }
     ensures failed { result ≡ Err WriteError.Failed → Rose (K.faults sink.old) (K.faults sink.new) }
 {
     let mut piece = Bytes::new(alloc);
-    desk.step(alloc, s, what, &mut piece)?;
+    desk.step(alloc, s, event, &mut piece)?;
     write_all(sink, piece.as_slice())
 }
 
@@ -63,7 +63,7 @@ fn write_end<K: Sink>(alloc: Global, desk: &Desk, sink: &mut K) -> Result<(), Wr
 /// Runs a scenario, and writes its transcript.
 pub fn run<K: Sink>(alloc: Global, s: &Scenario, sink: &mut K) -> Result<(), WriteError>
     requires scenario { IsScenario s.now }
-    requires few { length s.now.events < 2 ^ 62 }
+    requires few { length s.now.events < 2 ^ 31 }
     ensures whole { OnOk result (Appends (K.written sink.old) (K.written sink.new) (transcript s.now)) }
     ensures prefix { OnErr result ((n : ℕ) × Appends (K.written sink.old) (K.written sink.new) (take n (transcript s.now))) }
     ensures later { K.faults sink.old ≤ K.faults sink.new }
@@ -72,7 +72,7 @@ pub fn run<K: Sink>(alloc: Global, s: &Scenario, sink: &mut K) -> Result<(), Wri
     write_echo(alloc, s, sink)?;
     let mut desk = Desk::new(alloc);
     for event in s.events.as_slice() {
-        write_event(alloc, s, &event.what, &mut desk, sink)?;
+        write_event(alloc, s, event, &mut desk, sink)?;
     }
     write_end(alloc, &desk, sink)
 }

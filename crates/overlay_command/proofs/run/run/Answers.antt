@@ -14,14 +14,14 @@ returns-in_err-write_echo-clause-prefix g c =
 pub loop-event-init : goal.loop-event-init
 loop-event-init g c = (
   started c.args.s.now c.new-desk.result c.as_slice-event-items.result.now (g.K.Sink.written c.args.sink.now) (g.K.Sink.written c.write_echo.new.sink) c.new-desk.ensures c.as_slice-event-items.ensures c.in_ok-write_echo.ensures.whole,
-  subst (λ (d : Desk). IsKept 0 d) (sym c.new-desk.ensures) (IsKept-start 0),
+  subst (λ (d : Desk). IsKept 0 d) (sym c.new-desk.ensures) IsKept-start,
   c.write_echo.ensures.later,
 )
 
 pub write_event-requires-clause-kept : goal.write_event-requires-clause-kept
 write_event-requires-clause-kept g c =
-    let few : length c.as_slice-event-items.result.now < 2 ^ 62 = rw c.as_slice-event-items.ensures c.requires.few in
-    IsKept-more c.loop-event.event-index (2 ^ 62) c.loop-event.desk (omega (arith, few, c.loop-event-test.true)) c.loop-event.invariant.1
+    let few : length c.as_slice-event-items.result.now < 2 ^ 31 = rw c.as_slice-event-items.ensures c.requires.few in
+    IsKept-more c.loop-event.event-index (2 ^ 31) c.loop-event.desk (omega (arith, few, c.loop-event-test.true)) c.loop-event.invariant.1
 
 pub write_event-requires-clause-small : goal.write_event-requires-clause-small
 write_event-requires-clause-small g c = small_at c.args.s.now c.as_slice-event-items.result.now c.loop-event.event-index c.event-item.result c.requires.scenario c.as_slice-event-items.ensures c.loop-event-test.true c.event-item.is
@@ -36,7 +36,7 @@ pub loop-event-preserved : goal.loop-event-preserved
 loop-event-preserved g c = (
   went_on c.args.s.now c.loop-event.desk c.write_event.new.desk c.as_slice-event-items.result.now c.loop-event.event-index c.event-item.result (g.K.Sink.written c.args.sink.now) (g.K.Sink.written c.loop-event.sink) (g.K.Sink.written c.write_event.new.sink)
       c.loop-event-test.true c.event-item.is c.in_ok-write_event.ensures.desk c.loop-event.invariant.0 c.in_ok-write_event.ensures.whole,
-  kept_on c.args.s.now c.loop-event.desk c.write_event.new.desk c.event-item.result.what c.loop-event.event-index c.in_ok-write_event.ensures.desk c.loop-event.invariant.1,
+  kept_on c.args.s.now c.loop-event.desk c.write_event.new.desk c.event-item.result c.loop-event.event-index c.in_ok-write_event.ensures.desk (small_at c.args.s.now c.as_slice-event-items.result.now c.loop-event.event-index c.event-item.result c.requires.scenario c.as_slice-event-items.ensures c.loop-event-test.true c.event-item.is) c.loop-event.invariant.1,
   omega (arith, c.loop-event.invariant.2, c.write_event.ensures.later),
 )
 
