@@ -72,16 +72,26 @@ fn events_outside_the_grammar(rt: HostRuntime) -> Result<(), Fail> {
         (5, "store 2 1 @abc kind=256/0 -:5000:4294967296:+6869"),
         (5, "store 2 1 @abc kind=256/0 -:5000:60:+686A"),
         (5, "store 2 1 @abc kind=256/0 -:5000:60:+686"),
-        (5, "store 2 1 @abc kind=256/0 -:5000:60:-"),
+        (5, "store 2 1 @abc kind=256/0 -:5000:60:--"),
+        (5, "store 2 1 @abc kind=256/0 -:5000:60:#140002"),
+        (5, "store 2 1 @abc kind=256/0 -:5000:60:"),
         (5, "store 2 1 @abc kind=257/0 -:5000:60:+6869"),
-        (5, "store 2 1 @abd kind=256/0 -:5000:60:+6869"),
+        (5, "store 2 1 abc kind=256/0 -:5000:60:+6869"),
+        (5, "store 2 1 @abc kind=256/0 =61:5000:60:+6869"),
         (5, "store 3 1 @abc kind=256/0 -:5000:60:+6869"),
         (5, "store 2 3 @abc kind=256/0 -:5000:60:+6869"),
         (5, " "),
-        (6, "deliver 0"),
         (6, "deliver 01"),
-        (6, "deliver 2"),
-        (6, "fetch 2 1 @abc 256"),
+        (6, "deliver 18446744073709551616"),
+        (6, "drain 0"),
+        (6, "drain 1000001"),
+        (6, "clock 0"),
+        (6, "clock 1000000001"),
+        (6, "fetch 2 1 @abc 257"),
+        (6, "fetch 2 1 @abc 256/"),
+        (6, "fetch 2 1 @abc 256:*"),
+        (6, "fetch 2 1 @abc 256 256"),
+        (6, "lose 1"),
     ];
     for (n, line) in cases {
         let text = with_line(rt.alloc(), n, line)?;
@@ -92,7 +102,7 @@ fn events_outside_the_grammar(rt: HostRuntime) -> Result<(), Fail> {
 
 #[test]
 fn the_first_bad_line_of_a_text(rt: HostRuntime) -> Result<(), Fail> {
-    let cases: [(&[&str], usize); 9] = [
+    let cases: [(&[&str], usize); 8] = [
         (&[""], 1),
         (&["\n"], 2),
         (&["overlay abc"], 1),
@@ -106,16 +116,8 @@ fn the_first_bad_line_of_a_text(rt: HostRuntime) -> Result<(), Fail> {
         ),
         (&[DECLARATIONS, "# no line feed"], 5),
         (
-            &["# a comment\x7f\n\n", DECLARATIONS, "\n#\ndeliver 1\n"],
+            &["# a comment\x7f\n\n", DECLARATIONS, "\n#\ndeliver 01\n"],
             9,
-        ),
-        (
-            &[
-                "overlay abc\nkind 256 single user-match 1 2 0\n",
-                "peer 1 80000000000000000000000000000000 p\nclient 2 40000000000000000000000000000000 abc\n",
-                "store 2 1 @abc kind=256/0 -:5000:60:+6869\nstore 2 1 @abc kind=256/0 -:5000:60:+686970\n",
-            ],
-            6,
         ),
         (
             &[
@@ -143,7 +145,12 @@ fn with_long_line(alloc: Global, front: &str, byte: u8, count: usize) -> Result<
 #[test]
 fn the_longest_value_and_line(rt: HostRuntime) -> Result<(), Fail> {
     let cases = [
-        ("store 2 1 @abc kind=256/0 -:5000:60:+", b'0', 200, 202),
+        (
+            "store 2 1 @abc kind=256/0 -:5000:60:+",
+            b'0',
+            399_962,
+            399_964,
+        ),
         ("#", b'~', 399_999, 400_000),
     ];
     for (front, byte, most, over) in cases {

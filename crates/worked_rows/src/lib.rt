@@ -6,6 +6,10 @@ mod bad_lines;
 #[cfg(test)]
 mod calls;
 #[cfg(test)]
+mod fetches;
+#[cfg(test)]
+mod plain;
+#[cfg(test)]
 mod refusals;
 #[cfg(test)]
 mod resources;
