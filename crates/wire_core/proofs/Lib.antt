@@ -1,5 +1,7 @@
 pub mod Bytes
+pub mod Decoders
 pub mod Entries
 pub mod Laws
 pub mod Lists
+pub mod SignatureLaw
 pub mod Words

@@ -1,4 +1,5 @@
 pub mod Layout
 pub mod Part
 pub mod Reading
+pub mod Signature
 pub mod Spelling

@@ -6,6 +6,7 @@ mod both_ways;
 mod cursor;
 mod layout;
 mod put;
+mod signature;
 
 pub use bad::{Bad, DecodeFault, Reason, allowed};
 pub use both_ways::words_are_layouts;
@@ -18,6 +19,7 @@ pub use put::{
     put_boolean, put_bytes, put_id, put_length, put_u8, put_u16, put_u24, put_u32, put_u64,
     put_u128,
 };
+pub use signature::{Signature, SignerIdentity, put_signature, take_signature};
 
 #[cfg(test)]
 mod tests;
