@@ -1,0 +1,2 @@
+pub mod BlockLaw
+pub mod StandInExact

@@ -1,0 +1,5 @@
+pub mod Block
+pub mod Claims
+pub mod Signers
+pub mod StandIn
+pub mod StandInLaw

@@ -1,0 +1,17 @@
+-- Whom a certificate may be about, and who signed.
+use Rattle.std.specs.Prelude.{ℕ, ◌≤◌, ◌==◌, ◌&&◌, Bool, List, length, Option, find}
+use Rattle.std.specs.Option.{option_and_then}
+use Rattle.security_block.specs.declared.about.About.{About}
+use Rattle.security_block.specs.declared.certificate.Certificate.{Certificate}
+
+-- The user's name has 1 to 64 bytes (this profile).
+abbrev pub IsNamed : About → Type 0
+IsNamed who = (1 ≤ length who.user) × (length who.user ≤ 64)
+
+-- the first certificate of code 224 with which the signature verifies
+unfoldable pub first_verifying : (List ℕ → Bool) → List Certificate → Option Certificate
+first_verifying verifies cs = find (λ c. (c.code == 224) && verifies c.body) cs
+
+-- whom that certificate is about
+unfoldable pub signer_among : (List ℕ → Bool) → (List ℕ → Option About) → List Certificate → Option About
+signer_among verifies about cs = option_and_then (λ c. about c.body) (first_verifying verifies cs)

@@ -1,0 +1,14 @@
+//! Certificates, signatures and who made them: the security block that ends each message (RFC 6940, section 6.3.4).
+#![tactic(auto)]
+
+mod about;
+mod block;
+mod certificate;
+mod signer;
+mod stand_in;
+
+pub use about::About;
+pub use block::{SecurityBlock, decode_block, encode_block};
+pub use certificate::Certificate;
+pub use signer::{Signer, signer_of};
+pub use stand_in::StandIn;
