@@ -1,2 +1,3 @@
 pub mod BlockLaw
+pub mod OwnSignature
 pub mod StandInExact

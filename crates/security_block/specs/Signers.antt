@@ -1,5 +1,5 @@
 -- Whom a certificate may be about, and who signed.
-use Rattle.std.specs.Prelude.{ℕ, ◌≤◌, ◌==◌, ◌&&◌, Bool, List, length, Option, find}
+use Rattle.std.specs.Prelude.{ℕ, ◌≤◌, ◌==◌, ◌&&◌, Bool, List, [], ◌∷◌, length, Option, find}
 use Rattle.std.specs.Option.{option_and_then}
 use Rattle.security_block.specs.declared.about.About.{About}
 use Rattle.security_block.specs.declared.certificate.Certificate.{Certificate}
@@ -15,3 +15,7 @@ first_verifying verifies cs = find (λ c. (c.code == 224) && verifies c.body) cs
 -- whom that certificate is about
 unfoldable pub signer_among : (List ℕ → Bool) → (List ℕ → Option About) → List Certificate → Option About
 signer_among verifies about cs = option_and_then (λ c. about c.body) (first_verifying verifies cs)
+
+-- one certificate of code 224, and no other
+unfoldable pub alone : List ℕ → List Certificate
+alone certificate = record { code = 224; body = certificate } ∷ []

@@ -10,5 +10,5 @@ mod stand_in;
 pub use about::About;
 pub use block::{SecurityBlock, decode_block, encode_block};
 pub use certificate::Certificate;
-pub use signer::{Signer, signer_of};
+pub use signer::{Signer, signer_of, verifies_as_own};
 pub use stand_in::StandIn;

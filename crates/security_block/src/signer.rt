@@ -4,7 +4,7 @@ ghost use Rattle.std.specs.Prelude.{◌≡◌, ◌^◌, ◌<◌, [], ◌∷◌, 
 ghost use Rattle.std.specs.Option.{option_copied};
 ghost use Rattle.wire_core.specs.declared.signature.Signature.{Signature};
 ghost use Rattle.security_block.specs.declared.about.About.{About};
-ghost use Rattle.security_block.specs.Signers.{IsNamed, first_verifying, signer_among};
+ghost use Rattle.security_block.specs.Signers.{IsNamed, first_verifying, signer_among, alone};
 
 use crate::about::About;
 use crate::certificate::Certificate;
@@ -83,4 +83,12 @@ pub fn signer_of<G: Signer>(
         Some(certificate) => g.about(alloc, certificate.body.as_slice()),
         None => Ok(None),
     }
+}
+
+/// What a node signed verifies as that node's, wherever its certificate stands alone: `signer_of` then answers the
+/// node, or `NoMemory`.
+pub fn verifies_as_own<G: Signer>()
+    ensures { (g : G) (who : About) (bytes : List ℕ) → IsNamed who → who.node.0 < 2 ^ 128
+        → signer_among (λ c. G.verifies g c bytes (G.signature_of g (G.certificate_of g who) bytes)) (G.about_of g) (alone (G.certificate_of g who)) ≡ Some who }
+{
 }
