@@ -90,5 +90,4 @@ pub fn signer_of<G: Signer>(
 pub fn verifies_as_own<G: Signer>()
     ensures { (g : G) (who : About) (bytes : List ℕ) → IsNamed who → who.node.0 < 2 ^ 128
         → signer_among (λ c. G.verifies g c bytes (G.signature_of g (G.certificate_of g who) bytes)) (G.about_of g) (alone (G.certificate_of g who)) ≡ Some who }
-{
-}
+{}
