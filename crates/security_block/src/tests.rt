@@ -16,23 +16,27 @@ use wire_core::{
 
 /// The certificate of the peer 000102..0f and its user `abc`. In Python, with `said` the first 22 bytes,
 /// `hashlib.sha256(b'RELOAD stand-in authority' + said).hexdigest()` is 458f1c7e..64195, the last 32.
-const CERTIFICATE: [u8; 54] = [
-    0x01, 0x01, 0x00, 0x01, 0x02, 0x03, 0x04, 0x05, 0x06, 0x07, 0x08, 0x09, 0x0a, 0x0b, 0x0c, 0x0d,
-    0x0e, 0x0f, 0x03, 0x61, 0x62, 0x63, 0x45, 0x8f, 0x1c, 0x7e, 0xe5, 0x3f, 0xc4, 0xc0, 0x66, 0xc9,
-    0x52, 0xc7, 0x61, 0xe0, 0x21, 0x73, 0x7a, 0x6d, 0x5c, 0x78, 0x10, 0x96, 0x91, 0xd4, 0x5c, 0xee,
-    0xa2, 0x34, 0x6e, 0x36, 0x41, 0x95,
-];
+fn certificate() -> &'static [u8] {
+    &[
+        0x01, 0x01, 0x00, 0x01, 0x02, 0x03, 0x04, 0x05, 0x06, 0x07, 0x08, 0x09, 0x0a, 0x0b, 0x0c,
+        0x0d, 0x0e, 0x0f, 0x03, 0x61, 0x62, 0x63, 0x45, 0x8f, 0x1c, 0x7e, 0xe5, 0x3f, 0xc4, 0xc0,
+        0x66, 0xc9, 0x52, 0xc7, 0x61, 0xe0, 0x21, 0x73, 0x7a, 0x6d, 0x5c, 0x78, 0x10, 0x96, 0x91,
+        0xd4, 0x5c, 0xee, 0xa2, 0x34, 0x6e, 0x36, 0x41, 0x95,
+    ]
+}
 
 /// Its signature over `hello`. In Python, with `certificate` as above,
 /// `identity = bytes([1, 0, 34, 4, 32]) + hashlib.sha256(certificate).digest()` (ed0097a4..6540b) and
 /// `hashlib.sha256(b'RELOAD stand-in key' + certificate + b'hello' + identity)` (f6266a01..438be).
-const SIGNATURE: [u8; 73] = [
-    0x04, 0xe0, 0x01, 0x00, 0x22, 0x04, 0x20, 0xed, 0x00, 0x97, 0xa4, 0x56, 0xd6, 0xfb, 0xe0, 0x52,
-    0x5e, 0x3e, 0xc0, 0xae, 0x00, 0xb5, 0x00, 0x7e, 0x9c, 0xce, 0x8f, 0xed, 0x9c, 0x70, 0xf1, 0x75,
-    0xc3, 0xca, 0x31, 0xd2, 0x76, 0x54, 0x0b, 0x00, 0x20, 0xf6, 0x26, 0x6a, 0x01, 0x0b, 0x3b, 0xa4,
-    0xfb, 0x94, 0xa3, 0x90, 0x21, 0xa5, 0xf2, 0xa0, 0x4d, 0xd2, 0x74, 0xbb, 0x9a, 0xb2, 0x75, 0x60,
-    0x4d, 0x9c, 0xfd, 0xff, 0xae, 0x25, 0x74, 0x38, 0xbe,
-];
+fn signature_bytes() -> &'static [u8] {
+    &[
+        0x04, 0xe0, 0x01, 0x00, 0x22, 0x04, 0x20, 0xed, 0x00, 0x97, 0xa4, 0x56, 0xd6, 0xfb, 0xe0,
+        0x52, 0x5e, 0x3e, 0xc0, 0xae, 0x00, 0xb5, 0x00, 0x7e, 0x9c, 0xce, 0x8f, 0xed, 0x9c, 0x70,
+        0xf1, 0x75, 0xc3, 0xca, 0x31, 0xd2, 0x76, 0x54, 0x0b, 0x00, 0x20, 0xf6, 0x26, 0x6a, 0x01,
+        0x0b, 0x3b, 0xa4, 0xfb, 0x94, 0xa3, 0x90, 0x21, 0xa5, 0xf2, 0xa0, 0x4d, 0xd2, 0x74, 0xbb,
+        0x9a, 0xb2, 0x75, 0x60, 0x4d, 0x9c, 0xfd, 0xff, 0xae, 0x25, 0x74, 0x38, 0xbe,
+    ]
+}
 
 fn abc(alloc: Global, peer: bool) -> Result<About, NoMemory>
     ensures { IfOk result IsNamed }
@@ -60,7 +64,7 @@ fn a_block_byte_for_byte(rt: HostRuntime) -> Result<(), Fail> {
     let signer = StandIn::new();
     let who = abc(alloc, true)?;
     let body = signer.certificate(alloc, &who)?;
-    assert_eq!(rt; body.as_slice(), CERTIFICATE.as_slice());
+    assert_eq!(rt; body.as_slice(), certificate());
     let signature = signer.sign(alloc, body.as_slice(), b"hello")?;
     let mut certificates = List::new(alloc);
     certificates.push(Certificate { code: 224, body })?;
@@ -74,8 +78,8 @@ fn a_block_byte_for_byte(rt: HostRuntime) -> Result<(), Fail> {
     let (front, rest) = bytes.as_slice().split_at(5);
     assert_eq!(rt; front, [0, 57, 224, 0, 54].as_slice());
     let (body, signature) = rest.split_at(54);
-    assert_eq!(rt; body, CERTIFICATE.as_slice());
-    assert_eq!(rt; signature, SIGNATURE.as_slice());
+    assert_eq!(rt; body, certificate());
+    assert_eq!(rt; signature, signature_bytes());
 
     let mut cursor = Cursor::new(bytes.as_slice(), 0);
     let again = decode_block(alloc, &mut cursor)?;
@@ -97,7 +101,7 @@ fn a_block_byte_for_byte(rt: HostRuntime) -> Result<(), Fail> {
 fn no_other_bytes_are_a_certificate(rt: HostRuntime) -> Result<(), Fail> {
     let alloc = rt.alloc();
     let signer = StandIn::new();
-    let (said, _) = CERTIFICATE.as_slice().split_at(22);
+    let (said, _) = certificate().split_at(22);
     assert!(rt;
         signer
             .about(alloc, tagged(alloc, said)?.as_slice())?
@@ -136,7 +140,7 @@ fn no_other_bytes_are_a_certificate(rt: HostRuntime) -> Result<(), Fail> {
 
     // Each byte of a certificate changed, and each end of it cut off.
     for at in 0..54usize {
-        let mut wrong = CERTIFICATE.as_slice().to_vec(alloc)?;
+        let mut wrong = certificate().to_vec(alloc)?;
         if let Some(place) = wrong.get_mut(at) {
             *place ^= 1;
         }
@@ -152,8 +156,8 @@ fn no_other_bytes_are_a_certificate(rt: HostRuntime) -> Result<(), Fail> {
 
 /// The signature over `hello` with one field changed, by its number.
 fn changed(alloc: Global, field: u8) -> Result<Signature, NoMemory> {
-    let mut s = StandIn::new().sign(alloc, &CERTIFICATE, b"hello")?;
-    let hash = Bytes::from_slice(alloc, &Sha256::digest(&CERTIFICATE))?;
+    let mut s = StandIn::new().sign(alloc, certificate(), b"hello")?;
+    let hash = Bytes::from_slice(alloc, &Sha256::digest(certificate()))?;
     let other = Bytes::from_slice(alloc, &Sha256::digest(b"other"))?;
     match field {
         0 => s.hash = 5,
@@ -180,13 +184,13 @@ fn no_other_signature_verifies(rt: HostRuntime) -> Result<(), Fail> {
     for field in 0..8 {
         let s = changed(alloc, field)?;
         assert_eq!(rt;
-            signer.verify(&CERTIFICATE, b"hello", &s),
+            signer.verify(certificate(), b"hello", &s),
             field == 7,
             "{field}"
         );
     }
     let s = changed(alloc, 7)?;
-    assert!(rt; !signer.verify(&CERTIFICATE, b"hell", &s), "other bytes");
+    assert!(rt; !signer.verify(certificate(), b"hell", &s), "other bytes");
     let client = signer.certificate(alloc, &abc(alloc, false)?)?;
     assert!(rt;
         !signer.verify(client.as_slice(), b"hello", &s),
