@@ -148,6 +148,7 @@ fn value(certificate: &[u8], bytes: &[u8], fingerprint: &[u8; 32]) -> [u8; 32]
     hasher.update(key());
     hasher.update(certificate);
     hasher.update(bytes);
+    // The identity: its type, the length of its part, and the hash behind its algorithm and length.
     hasher.update(&[1u8, 0, 34, SHA_256, 32]);
     hasher.update(fingerprint);
     hasher.finalize()
