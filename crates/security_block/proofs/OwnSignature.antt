@@ -1,5 +1,5 @@
 -- A signature that verifies with the one certificate there is.
-use Rattle.std.proofs.Common.{◌≡◌, ℕ, Bool, true, List, [], ◌∷◌, Option, Some, refl, ap, ◌∙◌}
+use Rattle.std.proofs.Common.{◌≡◌, ℕ, Bool, true, List, Option, refl}
 use Rattle.security_block.specs.declared.about.About.{About}
 use Rattle.security_block.specs.Signers.{first_verifying, signer_among, alone}
 

@@ -1,5 +1,5 @@
 -- What the stand-in looks at is exact: no other bytes are a certificate, and no other signature verifies.
-use Rattle.std.proofs.Common.{◌≡◌, ℕ, ◌+◌, ◌-◌, ◌^◌, ◌<◌, Bool, true, false, cond, ◌&&◌, eqb, List, [], ◌∷◌, ◌++◌, length, take, drop, Option, Some, None, IsSome, IfSome, is_some, Result, Ok, Err, refl, sym, ap, subst, ◌∙◌, arith}
+use Rattle.std.proofs.Common.{◌≡◌, ℕ, ◌-◌, true, false, cond, eqb, List, [], ◌++◌, length, take, drop, Some, None, Result, Ok, Err, refl, sym, ap, subst, ◌∙◌}
 use Rattle.std.specs.Option.{option_map}
 use Rattle.std.specs.Result.{result_ok}
 use Rattle.std.specs.Str.{bytes_eq}
@@ -18,8 +18,8 @@ use Rattle.wire_core.proofs.Bytes.{IsBytes, IsBytes-take}
 use Rattle.wire_core.proofs.Laws.{part}
 use Rattle.security_block.specs.declared.about.About.{About}
 use Rattle.security_block.specs.Signers.{IsNamed}
-use Rattle.security_block.specs.StandIn.{claim, tag_of, certificate_for, claim_at, claimed, about_by, identity_by, value_by, signature_by, identifies, is_signature_by, verifies_by}
-use Rattle.security_block.specs.StandInLaw.{both, and_true, IsClaim, claim_laid, is_signature_by-own}
+use Rattle.security_block.specs.StandIn.{claim, tag_of, certificate_for, claim_at, claimed, about_by, identity_by, value_by, signature_by, identifies, is_signature_by}
+use Rattle.security_block.specs.StandInLaw.{both, IsClaim, claim_laid, is_signature_by-own}
 
 -- It was read up to the end of the part.
 abbrev FillsPart : Result (About × Part) Bad → About → Type 0

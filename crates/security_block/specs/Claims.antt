@@ -1,5 +1,4 @@
 -- A claim that is lent from a certificate.
-use Rattle.std.specs.Prelude.{ℕ}
 use Rattle.security_block.specs.declared.about.About.{About}
 use Rattle.security_block.specs.declared.stand_in.Claim.{Claim}
 

@@ -1,19 +1,15 @@
 -- The stand-in meets the law of a signer: its certificates are read as they are spelled, and its signatures verify.
-use Rattle.std.proofs.Common.{◌≡◌, ℕ, zero, suc, ◌+◌, ◌-◌, ◌^◌, ◌<◌, ◌≤◌, ◌↔◌, Bool, true, false, cond, ◌&&◌, ◌||◌, eqb, leb, List, [], ◌∷◌, ◌++◌, length, take, drop, Option, Some, IsSome, IfSome, is_some, Ok, refl, sym, ap, subst, ◌∙◌, length-append, lit<, arith}
+use Rattle.std.proofs.Common.{◌≡◌, ℕ, ◌+◌, ◌-◌, ◌^◌, ◌<◌, ◌≤◌, Bool, true, false, cond, ◌&&◌, ◌||◌, eqb, leb, List, [], ◌++◌, length, Some, Ok, refl, sym, ap, subst, ◌∙◌, length-append, lit<, arith}
 use Rattle.std.specs.Str.{bytes_eq}
 use Rattle.std.proofs.lemmas.Bool.{eqb-true, leb-true, le-leb}
-use Rattle.std.proofs.lemmas.List.{append-nil, take_at, drop_at, take-append-drop, nil_from_length}
+use Rattle.std.proofs.lemmas.List.{append-nil, take_at, drop_at}
 use Rattle.std.proofs.lemmas.Slice.Eq.{bytes_eq-Decides}
 use Rattle.sha2.specs.Sha256.{sha256}
 use Rattle.sha2.proofs.Facts256.{length-sha256}
 use Rattle.wire_core.specs.declared.bad.Reason.TheVariants.{BadValue}
-use Rattle.wire_core.specs.declared.signature.Signature.{Signature}
-use Rattle.wire_core.specs.declared.signature.SignerIdentity.{SignerIdentity}
-use Rattle.wire_core.specs.declared.signature.SignerIdentity.TheVariants as signers
 use Rattle.wire_core.specs.Part.{Part}
 use Rattle.wire_core.specs.Spelling.{number, vector}
 use Rattle.wire_core.specs.Reading.{allowed, rest_at}
-use Rattle.wire_core.proofs.Bytes.{IsBytes}
 use Rattle.wire_core.proofs.Laws.{part, Follows, Anything, Nothing, Always, IsLayout, ok_is, seq, done_laid, fits_as, spelled_as, placed, tested}
 use Rattle.wire_core.proofs.Words.{number_laid, vector_laid, exact_laid}
 use Rattle.security_block.specs.declared.about.About.{About}
