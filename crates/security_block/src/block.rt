@@ -1,6 +1,6 @@
 //! The block that ends each message.
 
-ghost use Rattle.std.specs.Prelude.{◌≡◌, ◌↔◌, ◌-◌, ◌^◌, ◌≤◌, ◌++◌, ℕ, List, IsTrue, IfOk, OnOk, Ok, length, min};
+ghost use Rattle.std.specs.Prelude.{◌≡◌, ◌++◌, ℕ, List, IfOk, Ok};
 ghost use Rattle.wire_core.specs.Reading.{Decodes};
 ghost use Rattle.wire_core.specs.Signature.{AreBytes, behind_text, IsTakenFrom};
 ghost use Rattle.security_block.specs.declared.block.SecurityBlock.{SecurityBlock};

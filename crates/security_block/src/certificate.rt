@@ -1,7 +1,5 @@
 //! Certificates as a message holds them.
 
-ghost use Rattle.std.specs.Prelude.{◌≡◌, ◌↔◌, ◌-◌, ◌^◌, ◌≤◌, ◌++◌, IsTrue, OnOk, length, min};
-ghost use Rattle.wire_core.specs.Reading.{Decodes};
 ghost use Rattle.security_block.specs.Block.{certificate, certificate_at, IsSpelledCertificate};
 
 use reload_base::{Bytes, NoMemory, TryCopy};

@@ -1,6 +1,6 @@
 //! Who signs, and who signed.
 
-ghost use Rattle.std.specs.Prelude.{◌≡◌, ◌^◌, ◌<◌, [], ◌∷◌, ℕ, Bool, true, List, Option, Some, IfOk};
+ghost use Rattle.std.specs.Prelude.{◌≡◌, ◌^◌, ◌<◌, ℕ, Bool, true, List, Option, Some, IfOk};
 ghost use Rattle.std.specs.Option.{option_copied};
 ghost use Rattle.wire_core.specs.declared.signature.Signature.{Signature};
 ghost use Rattle.security_block.specs.declared.about.About.{About};

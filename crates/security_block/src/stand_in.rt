@@ -1,13 +1,12 @@
 //! The stand-in signer of this profile.
 
-ghost use Rattle.std.specs.Prelude.{◌≡◌, ◌↔◌, ◌≤◌, ◌<◌, ◌^◌, ◌++◌, ℕ, Ok, Err, Some, length, IsTrue, IsSome, IfOk, IfSome, OnOk, MatchResult};
+ghost use Rattle.std.specs.Prelude.{◌≡◌, ◌↔◌, ◌++◌, Ok, Err, IsTrue, IsSome, IfOk, IfSome, OnOk, MatchResult};
 ghost use Rattle.std.specs.Option.{option_map};
 ghost use Rattle.sha2.specs.Sha256.{sha256};
 ghost use Rattle.wire_core.specs.Reading.{Reads};
-ghost use Rattle.security_block.specs.declared.about.About.{About};
 ghost use Rattle.security_block.specs.Signers.{IsNamed};
 ghost use Rattle.security_block.specs.Claims.{who_claims};
-ghost use Rattle.security_block.specs.StandIn.{authority_text, key_text, claim, tag_of, certificate_for, role_at, user_at, claim_at, claimed, about_by, identity_by, value_by, signature_by, identifies, is_signature_by, verifies_by};
+ghost use Rattle.security_block.specs.StandIn.{authority_text, key_text, claim, tag_of, certificate_for, role_at, user_at, claim_at, claimed, about_by, value_by, signature_by, identifies, is_signature_by, verifies_by};
 
 use crate::about::About;
 use crate::signer::Signer;

@@ -1,8 +1,6 @@
 -- From the law of a layout to the contract of a call that reads it.
-use Rattle.std.proofs.Common.{◌≡◌, ℕ, ◌+◌, List, ◌++◌, length, Result, Ok, Err, IfOk, ap, subst, ◌∙◌}
-use Rattle.wire_core.specs.declared.bad.Bad.{Bad}
+use Rattle.std.proofs.Common.{◌≡◌, ℕ, ◌+◌, List, ◌++◌, Result, Ok, Err, IfOk, ap, subst, ◌∙◌}
 use Rattle.wire_core.specs.declared.bad.DecodeFault.{DecodeFault}
-use Rattle.wire_core.specs.declared.bad.DecodeFault.TheVariants as faults
 use Rattle.wire_core.specs.Part.{Part}
 use Rattle.wire_core.specs.Reading.{Reader, Decodes}
 use Rattle.wire_core.specs.Signature.{behind_text, IsTakenFrom}

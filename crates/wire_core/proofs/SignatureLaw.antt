@@ -1,15 +1,15 @@
 -- A signature is read as it is spelled.
-use Rattle.std.proofs.Common.{◌≡◌, ℕ, ◌+◌, ◌^◌, ◌<◌, Bool, true, false, eqb, List, [], ◌∷◌, ◌++◌, length, refl, sym, ap, subst, ◌∙◌, length-append, lit<, arith}
+use Rattle.std.proofs.Common.{◌≡◌, ℕ, ◌+◌, ◌^◌, ◌<◌, true, false, eqb, List, [], ◌++◌, length, refl, sym, ap, subst, ◌∙◌, length-append, lit<, arith}
 use Rattle.std.proofs.lemmas.Bool.{eqb-true, eqb-false}
 use Rattle.std.proofs.lemmas.List.{append-nil}
 use Rattle.wire_core.specs.Spelling.{number, vector}
-use Rattle.wire_core.specs.Reading.{Reader, done, rest_at, vector_at}
+use Rattle.wire_core.specs.Reading.{Reader, done, vector_at}
 use Rattle.wire_core.specs.declared.signature.Signature.{Signature}
 use Rattle.wire_core.specs.declared.signature.SignerIdentity.{SignerIdentity}
 use Rattle.wire_core.specs.declared.signature.SignerIdentity.TheVariants as signers
-use Rattle.wire_core.specs.Signature.{AreBytes, hash_part, identity, signature, IsSpelledIdentity, IsSpelledSignature, IsIdentityInRange, IsSignatureInRange, hash_at, cert_hash_at, cert_hash_node_id_at, no_identity_at, identity_of, identity_at, signature_at}
+use Rattle.wire_core.specs.Signature.{hash_part, identity, signature, IsSpelledIdentity, IsSpelledSignature, IsIdentityInRange, IsSignatureInRange, hash_at, cert_hash_at, cert_hash_node_id_at, no_identity_at, identity_of, identity_at, signature_at}
 use Rattle.wire_core.proofs.Bytes.{IsBytes, length-number}
-use Rattle.wire_core.proofs.Laws.{Anything, Nothing, Always, IsLayout, seq, done_laid, laid_as, fits_as, spelled_as, at_end, placed, chosen, refused_laid, made}
+use Rattle.wire_core.proofs.Laws.{Anything, Always, IsLayout, seq, done_laid, laid_as, fits_as, spelled_as, at_end, placed, chosen, refused_laid, made}
 use Rattle.wire_core.proofs.Words.{number_laid, vector_laid, rest_laid}
 
 abbrev pub IdentityFits : SignerIdentity → Type 0

@@ -1,10 +1,10 @@
 //! Signatures, and who made them.
 
-ghost use Rattle.std.specs.Prelude.{◌≡◌, ◌↔◌, ◌+◌, ◌-◌, ◌^◌, ◌<◌, ◌≤◌, ◌++◌, ℕ, List, IsTrue, IfOk, OnOk, Ok, length, min};
+ghost use Rattle.std.specs.Prelude.{◌≡◌, ◌+◌, ◌^◌, ◌<◌, ◌++◌, ℕ, List, IfOk, OnOk, Ok, length};
 ghost use Rattle.wire_core.specs.declared.signature.Signature.{Signature};
-ghost use Rattle.wire_core.specs.Reading.{Reads, Decodes, rest_at, vector_at};
-ghost use Rattle.wire_core.specs.Spelling.{number, vector};
-ghost use Rattle.wire_core.specs.Signature.{AreBytes, identity, signature, hash_part, IsSpelledIdentity, IsSpelledSignature, IsSignatureInRange, hash_at, cert_hash_at, cert_hash_node_id_at, no_identity_at, identity_of, identity_at, signature_at, behind_text, IsTakenFrom};
+ghost use Rattle.wire_core.specs.Reading.{Reads, Decodes, vector_at};
+ghost use Rattle.wire_core.specs.Spelling.{number};
+ghost use Rattle.wire_core.specs.Signature.{AreBytes, identity, signature, hash_part, IsSpelledIdentity, IsSpelledSignature, IsSignatureInRange, hash_at, cert_hash_at, cert_hash_node_id_at, no_identity_at, identity_at, signature_at, behind_text, IsTakenFrom};
 
 use crate::bad::{Bad, DecodeFault, Reason};
 use crate::cursor::Cursor;
