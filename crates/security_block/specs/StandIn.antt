@@ -1,4 +1,4 @@
--- The stand-in signer of this profile. It isn't secure: who knows this page can forge.
+-- The stand-in signer of this profile. It isn't secure: whoever knows its two texts can forge.
 use Rattle.std.specs.Prelude.{ℕ, ◌-◌, ◌==◌, ◌&&◌, ◌||◌, nat_le, Bool, false, List, [], ◌∷◌, ◌++◌, length, take, drop, codes, Option, None, is_some, if◌then◌else◌}
 use Rattle.std.specs.Option.{option_map}
 use Rattle.std.specs.Result.{result_ok}

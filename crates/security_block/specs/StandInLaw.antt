@@ -1,4 +1,5 @@
 -- The stand-in meets the law of a signer: its certificates are read as they are spelled, and its signatures verify.
+-- It stands in specs/ since the impl gives it as its proof.
 use Rattle.std.proofs.Common.{◌≡◌, ℕ, ◌+◌, ◌-◌, ◌^◌, ◌<◌, ◌≤◌, Bool, true, false, cond, ◌&&◌, ◌||◌, eqb, leb, List, [], ◌++◌, length, Some, Ok, refl, sym, ap, subst, ◌∙◌, length-append, lit<, arith}
 use Rattle.std.specs.Str.{bytes_eq}
 use Rattle.std.proofs.lemmas.Bool.{eqb-true, leb-true, le-leb}

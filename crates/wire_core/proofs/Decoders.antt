@@ -1,5 +1,5 @@
 -- From the law of a layout to the contract of a call that reads it.
-use Rattle.std.proofs.Common.{◌≡◌, ℕ, ◌+◌, List, ◌++◌, Result, Ok, Err, IfOk, ap, subst, ◌∙◌}
+use Rattle.std.proofs.Common.{◌≡◌, ℕ, List, ◌++◌, Result, Ok, Err, IfOk, ap, subst, ◌∙◌}
 use Rattle.wire_core.specs.declared.bad.DecodeFault.{DecodeFault}
 use Rattle.wire_core.specs.Part.{Part}
 use Rattle.wire_core.specs.Reading.{Reader, Decodes}
