@@ -1,12 +1,12 @@
 -- A security block is read as it is spelled.
 use Rattle.std.proofs.Common.{◌≡◌, ◌<◌, ◌++◌, length, All, refl, ap, length-append, arith}
 use Rattle.std.proofs.lemmas.List.{append-nil}
-use Rattle.std.proofs.lemmas.List.Elements.{All-from_recursion, recursion_from_All}
 use Rattle.wire_core.specs.Spelling.{number, vector}
 use Rattle.wire_core.specs.Reading.{list_at}
 use Rattle.wire_core.specs.Signature.{signature}
 use Rattle.wire_core.proofs.Bytes.{length-number}
-use Rattle.wire_core.proofs.Laws.{Anything, Nothing, Always, IsLayout, seq, done_laid, fits_as, spelled_as}
+use Rattle.wire_core.specs.Layout.{Anything, Nothing, Always, IsLayout}
+use Rattle.wire_core.proofs.Laws.{seq, done_laid, fits_as, spelled_as}
 use Rattle.wire_core.proofs.Words.{number_laid, vector_laid, rest_laid}
 use Rattle.wire_core.proofs.Lists.{list_laid}
 use Rattle.wire_core.proofs.SignatureLaw.{signature_laid}
@@ -36,7 +36,7 @@ certificate-some c f = omega (arith, length-number 1 c.code, length-append (numb
 
 -- the certificates that fill a part
 certificates_laid : IsLayout Nothing Always (All CertificateFits) certificates (list_at certificate_at)
-certificates_laid = fits_as _ (list_laid certificate_laid certificate-some) (λ cs k f. All-from_recursion CertificateFits cs f) (λ cs k f. recursion_from_All CertificateFits cs f)
+certificates_laid = list_laid certificate_laid certificate-some
 
 same_block : (b c : SecurityBlock) → b.certificates ≡ c.certificates → b.signature ≡ c.signature → b ≡ c
 same_block b c e f = λ i. record { certificates = e i; signature = f i }

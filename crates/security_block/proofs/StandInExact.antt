@@ -12,10 +12,10 @@ use Rattle.wire_core.specs.declared.bad.Reason.TheVariants.{Trailing}
 use Rattle.wire_core.specs.declared.signature.Signature.{Signature}
 use Rattle.wire_core.specs.declared.signature.SignerIdentity.{SignerIdentity}
 use Rattle.wire_core.specs.declared.signature.SignerIdentity.TheVariants as signers
-use Rattle.wire_core.specs.Part.{Part}
+use Rattle.wire_core.specs.Part.{Part, part}
 use Rattle.wire_core.specs.Reading.{and_then, ended, done, refused, allowed}
-use Rattle.wire_core.proofs.Bytes.{IsBytes, IsBytes-take}
-use Rattle.wire_core.proofs.Laws.{part}
+use Rattle.wire_core.specs.Spelling.{AreBytes}
+use Rattle.wire_core.proofs.Bytes.{AreBytes-take}
 use Rattle.security_block.specs.declared.about.About.{About}
 use Rattle.security_block.specs.Signers.{IsNamed}
 use Rattle.security_block.specs.StandIn.{claim, tag_of, certificate_for, claim_at, claimed, about_by, identity_by, value_by, signature_by, identifies, is_signature_by}
@@ -36,7 +36,7 @@ whole (Ok x) p who e =
       | false ↦ λ some f. absurd cc
     ] refl e
 
-claimed-is : (said : List ℕ) (who : About) → IsBytes said → claimed said ≡ Some who → IsClaim who × (said ≡ claim who)
+claimed-is : (said : List ℕ) (who : About) → AreBytes said → claimed said ≡ Some who → IsClaim who × (said ≡ claim who)
 unfolding claimed
 claimed-is said who bytes e =
     let w = whole (claim_at (part 0 said)) (part 0 said) who e in
@@ -44,14 +44,14 @@ claimed-is said who bytes e =
     (t.1, t.2.bytes ∙ ap (λ (r : List ℕ). claim who ++ r) w.2 ∙ append-nil (claim who))
 
 -- the certificate of the one whom it is about
-pub about_by-is : (certificate : List ℕ) (who : About) → IsBytes certificate → about_by certificate ≡ Some who → IsNamed who × (certificate ≡ certificate_for who)
+pub about_by-is : (certificate : List ℕ) (who : About) → AreBytes certificate → about_by certificate ≡ Some who → IsNamed who × (certificate ≡ certificate_for who)
 unfolding about_by certificate_for
 about_by-is certificate who bytes e =
     let n = length certificate - 32 in
     let said = take n certificate in
     elim (bytes_eq (tag_of said) (drop n certificate)) as (λ b. bytes_eq (tag_of said) (drop n certificate) ≡ b → cond b (claimed said) None ≡ Some who → IsNamed who × (certificate ≡ claim who ++ tag_of (claim who))) [
       | true ↦ λ tagged f.
-          let t = claimed-is said who (IsBytes-take n certificate bytes) f in
+          let t = claimed-is said who (AreBytes-take n certificate bytes) f in
           let tag : tag_of said ≡ drop n certificate = (bytes_eq-Decides (tag_of said) (drop n certificate)).0 tagged in
           (t.0.0, sym (take-append-drop n certificate) ∙ ap (λ (r : List ℕ). said ++ r) (sym tag) ∙ ap (λ (s : List ℕ). s ++ tag_of s) t.1)
       | false ↦ λ other f. absurd cc

@@ -1,9 +1,9 @@
 -- Certificates and security blocks: their spelling, and how they are read (RFC 6940, 6.3.4).
 use Rattle.std.specs.Prelude.{ℕ, ◌<◌, ◌^◌, List, ◌++◌, length, All}
 use Rattle.std.specs.List.{flat_map}
-use Rattle.wire_core.specs.Spelling.{number, vector}
+use Rattle.wire_core.specs.Spelling.{AreBytes, number, vector}
 use Rattle.wire_core.specs.Reading.{Reader, ◌>>=◌, done, rest_at, number_at, vector_at, list_at}
-use Rattle.wire_core.specs.Signature.{AreBytes, signature, signature_at, IsSpelledSignature, IsSignatureInRange}
+use Rattle.wire_core.specs.Signature.{signature, signature_at, IsSpelledSignature, IsSignatureInRange}
 use Rattle.security_block.specs.declared.certificate.Certificate.{Certificate}
 use Rattle.security_block.specs.declared.block.SecurityBlock.{SecurityBlock}
 

@@ -8,10 +8,11 @@ use Rattle.std.proofs.lemmas.Slice.Eq.{bytes_eq-Decides}
 use Rattle.sha2.specs.Sha256.{sha256}
 use Rattle.sha2.proofs.Facts256.{length-sha256}
 use Rattle.wire_core.specs.declared.bad.Reason.TheVariants.{BadValue}
-use Rattle.wire_core.specs.Part.{Part}
+use Rattle.wire_core.specs.Part.{Part, part}
 use Rattle.wire_core.specs.Spelling.{number, vector}
 use Rattle.wire_core.specs.Reading.{allowed, rest_at}
-use Rattle.wire_core.proofs.Laws.{part, Follows, Anything, Nothing, Always, IsLayout, ok_is, seq, done_laid, fits_as, spelled_as, placed, tested}
+use Rattle.wire_core.specs.Layout.{Follows, Anything, Nothing, Always, IsLayout}
+use Rattle.wire_core.proofs.Laws.{ok_is, seq, done_laid, fits_as, spelled_as, placed, tested}
 use Rattle.wire_core.proofs.Words.{number_laid, vector_laid, exact_laid}
 use Rattle.security_block.specs.declared.about.About.{About}
 use Rattle.security_block.specs.Signers.{IsNamed}

@@ -1,8 +1,8 @@
 //! The block that ends each message.
 
 ghost use Rattle.std.specs.Prelude.{◌≡◌, ◌++◌, ℕ, List, IfOk, Ok};
+ghost use Rattle.wire_core.specs.Layout.{Follows, behind_text};
 ghost use Rattle.wire_core.specs.Reading.{Decodes};
-ghost use Rattle.wire_core.specs.Signature.{AreBytes, behind_text, IsTakenFrom};
 ghost use Rattle.security_block.specs.declared.block.SecurityBlock.{SecurityBlock};
 ghost use Rattle.security_block.specs.Block.{block, block_at, IsSpelledBlock, IsBlockInRange};
 
@@ -63,13 +63,14 @@ impl Layout for SecurityBlock {
 /// Takes a security block from the front of a part. After a refusal the place of the cursor is open.
 pub fn decode_block(alloc: Global, c: &mut Cursor<'_>) -> Result<SecurityBlock, DecodeFault>
     // What is read is spelled so.
-    ensures found { AreBytes c.old.bytes → IfOk result (λ b. IsSpelledBlock b × IsBlockInRange b × IsTakenFrom c.old (block b) c.new) }
+    ensures found { IfOk result (λ b. IsSpelledBlock b × IsBlockInRange b × Follows c.old (block b) c.new) }
     // What is spelled so is read, unless memory runs out.
     ensures only { (b : SecurityBlock) (rest : List ℕ) → IsSpelledBlock b → IsBlockInRange b → c.old.bytes ≡ block b ++ rest
         → Decodes result c.new (Ok (b, behind_text (block b) rest c.old)) }
     // Which block or fault it is.
     ensures exact { Decodes result c.new (block_at c.old) }
 {
+    c.are_bytes();
     SecurityBlock::take(alloc, c)
 }
 

@@ -2,14 +2,15 @@
 use Rattle.std.proofs.Common.{◌≡◌, ℕ, ◌^◌, ◌<◌, true, false, eqb, List, [], ◌++◌, length, refl, sym, ap, subst, ◌∙◌, length-append, lit<, arith}
 use Rattle.std.proofs.lemmas.Bool.{eqb-true, eqb-false}
 use Rattle.std.proofs.lemmas.List.{append-nil}
-use Rattle.wire_core.specs.Spelling.{number, vector}
+use Rattle.wire_core.specs.Spelling.{AreBytes, number, vector}
 use Rattle.wire_core.specs.Reading.{Reader, vector_at}
 use Rattle.wire_core.specs.declared.signature.Signature.{Signature}
 use Rattle.wire_core.specs.declared.signature.SignerIdentity.{SignerIdentity}
 use Rattle.wire_core.specs.declared.signature.SignerIdentity.TheVariants as signers
 use Rattle.wire_core.specs.Signature.{hash_part, identity, signature, IsSpelledIdentity, IsSpelledSignature, IsIdentityInRange, IsSignatureInRange, hash_at, cert_hash_at, cert_hash_node_id_at, no_identity_at, identity_of, identity_at, signature_at}
-use Rattle.wire_core.proofs.Bytes.{IsBytes, length-number}
-use Rattle.wire_core.proofs.Laws.{Anything, Always, IsLayout, seq, done_laid, laid_as, fits_as, spelled_as, at_end, placed, chosen, refused_laid, made}
+use Rattle.wire_core.proofs.Bytes.{length-number}
+use Rattle.wire_core.specs.Layout.{Anything, Always, IsLayout}
+use Rattle.wire_core.proofs.Laws.{seq, done_laid, laid_as, fits_as, spelled_as, at_end, placed, chosen, refused_laid, made}
 use Rattle.wire_core.proofs.Words.{number_laid, vector_laid, rest_laid}
 
 abbrev pub IdentityFits : SignerIdentity → Type 0
@@ -41,7 +42,7 @@ code_of-lt signers.None = lit< tt
 
 -- a hash of at most 255 bytes behind its algorithm
 abbrev HashFits : ℕ × List ℕ → Type 0
-HashFits h = (h.0 < 256) × ((length h.1 < 256) × IsBytes h.1)
+HashFits h = (h.0 < 256) × ((length h.1 < 256) × AreBytes h.1)
 
 abbrev hash_text : ℕ × List ℕ → List ℕ
 hash_text h = number 1 h.0 ++ vector 1 h.1

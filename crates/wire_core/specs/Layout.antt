@@ -9,6 +9,10 @@ pub record Follows (p : Part) (text : List ℕ) (q : Part) : Type 0 where
   pub bytes : p.bytes ≡ text ++ q.bytes
   pub place : q.place ≡ p.place + length text
 
+-- what is left of a part behind a text at its front, where that is `rest`
+abbrev pub behind_text : List ℕ → List ℕ → Part → Part
+behind_text text rest p = part (p.place + length text) rest
+
 -- anything may stand behind, or nothing
 abbrev pub Anything : List ℕ → Type 0
 Anything rest = Unit {0}

@@ -1,16 +1,11 @@
 -- Signatures: their spelling, and how they are read (RFC 6940, 6.3.4).
-use Rattle.std.specs.Prelude.{◌≡◌, ℕ, ◌+◌, ◌<◌, ◌^◌, ◌==◌, List, [], ◌∷◌, ◌++◌, length, slice_index, if◌then◌else◌}
+use Rattle.std.specs.Prelude.{ℕ, ◌<◌, ◌^◌, ◌==◌, List, [], ◌∷◌, ◌++◌, length, if◌then◌else◌}
 use Rattle.wire_core.specs.declared.bad.Reason.TheVariants.{BadValue}
 use Rattle.wire_core.specs.declared.signature.Signature.{Signature}
 use Rattle.wire_core.specs.declared.signature.SignerIdentity.{SignerIdentity}
 use Rattle.wire_core.specs.declared.signature.SignerIdentity.TheVariants as signers
-use Rattle.wire_core.specs.Part.{Part}
-use Rattle.wire_core.specs.Spelling.{number, vector, joined}
+use Rattle.wire_core.specs.Spelling.{AreBytes, number, vector, joined}
 use Rattle.wire_core.specs.Reading.{Reader, ◌>>=◌, done, refused, place_at, rest_at, number_at, vector_at}
-
--- each is a byte
-abbrev pub AreBytes : List ℕ → Type 0
-AreBytes bytes = (i : ℕ) → slice_index bytes i < 2 ^ 8
 
 -- a hash behind the number of its algorithm, in a part of its own
 abbrev pub hash_part : ℕ → List ℕ → List ℕ
@@ -87,11 +82,3 @@ signature_at = do
   signer ← identity_at
   value ← vector_at 2 rest_at
   done (record { hash = hash; algorithm = algorithm; identity = signer; value = value })
-
--- What is left of a part behind a text at its front.
-abbrev pub behind_text : List ℕ → List ℕ → Part → Part
-behind_text text rest p = record { place = p.place + length text; bytes = rest }
-
--- A part begins with a text, and `left` is what is left of it.
-abbrev pub IsTakenFrom : Part → List ℕ → Part → Type 0
-IsTakenFrom p text left = (p.bytes ≡ text ++ left.bytes) × (left.place ≡ p.place + length text)

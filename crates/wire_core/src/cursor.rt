@@ -2,6 +2,7 @@
 
 ghost use Rattle.std.specs.Prelude.{◌≡◌, ◌+◌, ◌^◌, ◌<◌, ◌≤◌, ◌==◌, [], length, MatchResult, IfOk, Ok, Err};
 ghost use Rattle.wire_core.specs.Part.{end_of};
+ghost use Rattle.wire_core.specs.Spelling.{AreBytes};
 ghost use Rattle.wire_core.specs.Reading.{Reads, place_at, ended, bytes_at, number_at, exact_at, limited_at, boolean_at, stretch_at, part_at, sized_part_at, id_at};
 
 use crate::bad::{Bad, Reason, allowed};
@@ -34,6 +35,13 @@ impl<'a> Cursor<'a> {
         ensures { result ≡ record { place = base; bytes = bytes.now } }
     {
         Cursor { bytes, place: base }
+    }
+
+    /// Does nothing, and tells contracts that what is left are bytes.
+    pub fn are_bytes(&self)
+        ensures { AreBytes self.now.bytes }
+    {
+        are_bytes(self.bytes)
     }
 
     /// The place of the next byte.
@@ -264,4 +272,10 @@ impl<'a> Cursor<'a> {
         allowed(len == 16, place, Reason::BadValue)?;
         self.take_u128()
     }
+}
+
+/// Does nothing, and tells contracts that these are bytes.
+fn are_bytes(bytes: &[u8])
+    ensures { AreBytes bytes.now }
+{
 }

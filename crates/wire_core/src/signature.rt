@@ -2,9 +2,10 @@
 
 ghost use Rattle.std.specs.Prelude.{◌≡◌, ◌+◌, ◌^◌, ◌<◌, ◌++◌, ℕ, List, IfOk, OnOk, Ok, length};
 ghost use Rattle.wire_core.specs.declared.signature.Signature.{Signature};
+ghost use Rattle.wire_core.specs.Layout.{Follows, behind_text};
 ghost use Rattle.wire_core.specs.Reading.{Reads, Decodes, vector_at};
 ghost use Rattle.wire_core.specs.Spelling.{number};
-ghost use Rattle.wire_core.specs.Signature.{AreBytes, identity, signature, hash_part, IsSpelledIdentity, IsSpelledSignature, IsSignatureInRange, hash_at, cert_hash_at, cert_hash_node_id_at, no_identity_at, identity_at, signature_at, behind_text, IsTakenFrom};
+ghost use Rattle.wire_core.specs.Signature.{identity, signature, hash_part, IsSpelledIdentity, IsSpelledSignature, IsSignatureInRange, hash_at, cert_hash_at, cert_hash_node_id_at, no_identity_at, identity_at, signature_at};
 
 use crate::bad::{Bad, DecodeFault, Reason};
 use crate::cursor::Cursor;
@@ -220,13 +221,14 @@ impl Layout for Signature {
 /// Takes a signature from the front of a part. After a refusal the place of the cursor is open.
 pub fn take_signature(alloc: Global, c: &mut Cursor<'_>) -> Result<Signature, DecodeFault>
     // What is read is spelled so.
-    ensures found { AreBytes c.old.bytes → IfOk result (λ s. IsSpelledSignature s × IsSignatureInRange s × IsTakenFrom c.old (signature s) c.new) }
+    ensures found { IfOk result (λ s. IsSpelledSignature s × IsSignatureInRange s × Follows c.old (signature s) c.new) }
     // What is spelled so is read, unless memory runs out.
     ensures only { (s : Signature) (rest : List ℕ) → IsSpelledSignature s → IsSignatureInRange s → c.old.bytes ≡ signature s ++ rest
         → Decodes result c.new (Ok (s, behind_text (signature s) rest c.old)) }
     // Which signature or fault it is.
     ensures exact { Decodes result c.new (signature_at c.old) }
 {
+    c.are_bytes();
     Signature::take(alloc, c)
 }
 
