@@ -1,0 +1,4 @@
+pub mod Layouts
+pub mod Fronts
+pub mod Cases
+pub mod Taken

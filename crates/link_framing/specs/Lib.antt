@@ -1,0 +1,4 @@
+pub mod Finds
+pub mod Framing
+pub mod Reading
+pub mod Streams

@@ -1,0 +1,78 @@
+//! What stands at the front of a stream.
+
+ghost use Rattle.std.specs.Prelude.{◌≡◌, ◌+◌, ◌^◌, ◌<◌, ℕ, List, length, slice_index};
+ghost use Rattle.link_framing.specs.Finds.{Finds, Says};
+ghost use Rattle.link_framing.specs.Streams.{wanted, length_in, least_message};
+
+use crate::frame::{Frame, FrameFault};
+use crate::layout::take_frame;
+use std::alloc::Global;
+use wire_core::{Bad, Cursor, DecodeFault, Reason};
+
+/// The frame at the front of bytes, the first of which stands at a place of the stream, and how many bytes it has.
+pub fn first_frame(
+    alloc: Global,
+    bytes: &[u8],
+    place: u64,
+) -> Result<Option<(Frame, usize)>, FrameFault>
+    requires { place + length bytes.now < 2 ^ 63 }
+    ensures { Finds result place bytes.now }
+{
+    let mut from = Cursor::new(bytes, place);
+    match take_frame(alloc, &mut from) {
+        Ok(frame) => Ok(Some((frame, bytes.len() - from.len()))),
+        Err(DecodeFault::NoMemory) => Err(FrameFault::NoMemory),
+        Err(DecodeFault::Bad(bad)) => told(bad),
+    }
+}
+
+/// What a fault of the reading means: bytes are missing, or the stream's next frame can't come.
+fn told(bad: Bad) -> Result<Option<(Frame, usize)>, FrameFault>
+    ensures { (place : ℕ) → (bytes : List ℕ) → Says place bytes bad.place bad.reason → Finds result place bytes }
+{
+    match bad.reason {
+        Reason::Short | Reason::LengthPast => Ok(None),
+        Reason::TooLarge => Err(FrameFault::TooLarge(bad.place)),
+        Reason::BadValue | Reason::Trailing => Err(FrameFault::BadType(bad.place)),
+    }
+}
+
+/// How many bytes are missing to the next frame at the least or, where none can come, to the fault.
+#[tactic(auto, unfolding(crate::specs::Streams::least_whole))]
+pub fn wanted_by(held: &[u8]) -> u64
+    ensures { result ≡ wanted held.now }
+{
+    let whole = match held.first() {
+        None => 8,
+        Some(128) => 8 + u64::from(least_length(held)),
+        Some(129) => 9,
+        Some(_) => 0,
+    };
+    whole.saturating_sub(held.len() as u64)
+}
+
+/// The least length that a payload's message can have, as far as it is there; 0 where that is too large.
+fn least_length(held: &[u8]) -> u32
+    ensures { result ≡ least_message held.now }
+{
+    let len = length_so_far(held);
+    if len <= 262_144 { len } else { 0 }
+}
+
+/// The length of a payload's message, where each byte of it that hasn't come is 0.
+fn length_so_far(held: &[u8]) -> u32
+    ensures { result ≡ length_in held.now }
+{
+    65_536 * byte_or_zero(held, 5) + 256 * byte_or_zero(held, 6) + byte_or_zero(held, 7)
+}
+
+/// A byte, or 0 past the end.
+fn byte_or_zero(bytes: &[u8], at: usize) -> u32
+    ensures value { result ≡ slice_index bytes.now at }
+    ensures byte { result < 256 }
+{
+    match bytes.get(at) {
+        Some(byte) => u32::from(*byte),
+        None => 0,
+    }
+}
