@@ -2,3 +2,4 @@ pub mod Layouts
 pub mod Fronts
 pub mod Cases
 pub mod Taken
+pub mod Runs

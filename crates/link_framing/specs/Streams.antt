@@ -44,11 +44,15 @@ pub record IsTooLarge (bytes : List ℕ) : Type 0 where
   pub there : 8 ≤ length bytes
   pub large : most < length_in bytes
 
+-- no frame stands in front: bytes are missing, or none can come any more
+abbrev pub IsEnd : List ℕ → Type 0
+IsEnd bytes = IsPartial bytes ⊎ (IsBadType bytes ⊎ IsTooLarge bytes)
+
 -- A stream is these frames one after the other and then a rest, which is less than a frame or begins with a fault.
 pub record Stream (frames : List Frame) (bytes rest : List ℕ) : Type 0 where
   pub whole : bytes ≡ flat_map frame frames ++ rest
   pub each : AllByRecursion IsFrame frames
-  pub end : IsPartial rest ⊎ (IsBadType rest ⊎ IsTooLarge rest)
+  pub end : IsEnd rest
 
 -- ---- a reader holds a part of the stream, the front of which was taken
 

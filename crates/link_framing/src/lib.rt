@@ -3,8 +3,10 @@
 
 mod frame;
 mod front;
+mod laws;
 mod layout;
 mod reader;
 
 pub use frame::{Frame, FrameFault, encode_frame};
+pub use laws::{any_cutting, faults_stay, fed_is_taken_and_held, one_reading};
 pub use reader::FrameReader;
