@@ -3,3 +3,4 @@ pub mod Fronts
 pub mod Cases
 pub mod Taken
 pub mod Runs
+pub mod Heard

@@ -1,3 +1,4 @@
+pub mod Acked
 pub mod Finds
 pub mod Framing
 pub mod Reading

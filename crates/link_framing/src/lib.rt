@@ -1,12 +1,14 @@
 //! Frames on a link, and their acks (RFC 6940, section 6.6.1).
 #![tactic(auto)]
 
+mod acks;
 mod frame;
 mod front;
 mod laws;
 mod layout;
 mod reader;
 
+pub use acks::Acks;
 pub use frame::{Frame, FrameFault, encode_frame};
 pub use laws::{any_cutting, faults_stay, fed_is_taken_and_held, one_reading};
 pub use reader::FrameReader;

@@ -1,0 +1,94 @@
+//! Which payloads were heard, and the acks that say so.
+
+ghost use Rattle.std.specs.Prelude.{◌≡◌, ◌≢◌, ◌<◌, ◌^◌, ℕ, IfOk, OnOk, OnErr, if◌then◌else◌};
+ghost use Rattle.std.specs.Int.{bit_at};
+ghost use Rattle.std.specs.FinSet as set;
+ghost use Rattle.link_framing.specs.Acked.{heard_before, IsMask};
+
+use reload_base::NoMemory;
+use std::alloc::Global;
+use std::collections::BTreeSet;
+use std::marker::Model;
+
+/// The sequences of the payloads that were heard from one node. Contracts see their set.
+#[derive(Debug, Drop)]
+pub struct Acks {
+    heard: BTreeSet<u32>,
+}
+
+impl Model for Acks {
+    ghost use Rattle.std.specs.Ordering.{nat_cmp};
+    ghost use Rattle.std.specs.Coded.{coded_ℕ};
+    ghost use Rattle.std.specs.FinSet as set;
+
+    ghost Value = { set.FinSet nat_cmp };
+
+    ghost coded = { set.code coded_ℕ };
+
+    ghost view = { λ a. set.from_list a.heard.keys };
+}
+
+impl Acks {
+    /// Nothing was heard yet.
+    pub fn new(alloc: Global) -> Acks
+        ensures { result ≡ set.empty }
+    {
+        Acks {
+            heard: BTreeSet::new(alloc),
+        }
+    }
+
+    /// The mask for the ack of payload `n`: which of the 31 payloads before it were heard so far, however late they
+    /// came (RFC 6940, section 6.6.1).
+    pub fn mask(&self, n: u32) -> u32
+        ensures { IsMask self.now n result }
+    {
+        let mut mask = 0;
+        for k in 1..32 {
+            mask = with_bit(mask, k, self.heard_before(n, k));
+        }
+        mask
+    }
+
+    /// Payload `n` was heard. The answer is the mask for its ack.
+    pub fn hear(&mut self, n: u32) -> Result<u32, NoMemory>
+        ensures mask { IfOk result (λ mask. IsMask self.new n mask) }
+        ensures ok { OnOk result (self.new ≡ set.insert self.old n) }
+        ensures err { OnErr result (self.new ≡ self.old) }
+    {
+        self.add(n)?;
+        Ok(self.mask(n))
+    }
+
+    fn add(&mut self, n: u32) -> Result<(), NoMemory>
+        ensures ok { OnOk result (self.new ≡ set.insert self.old n) }
+        ensures err { OnErr result (self.new ≡ self.old) }
+    {
+        self.heard.insert(n)?;
+        Ok(())
+    }
+
+    /// Whether the payload `k` before `n` was heard, where there is one.
+    fn heard_before(&self, n: u32, k: u32) -> bool
+        ensures { result ≡ heard_before self.now n k }
+    {
+        k <= n && self.has(n - k)
+    }
+
+    fn has(&self, n: u32) -> bool
+        ensures { result ≡ set.contains self.now n }
+    {
+        self.heard.contains(&n)
+    }
+}
+
+/// The mask with bit `k`, which isn't set yet, as told.
+fn with_bit(mask: u32, k: u32, marked: bool) -> u32
+    requires place { k < 32 }
+    requires clear { bit_at mask k ≡ 0 }
+    ensures small { result < 2 ^ 32 }
+    ensures there { bit_at result k ≡ (if marked then 1 else 0) }
+    ensures others { (j : ℕ) → j ≢ k → bit_at result j ≡ bit_at mask j }
+{
+    if marked { mask | 1 << k } else { mask }
+}
