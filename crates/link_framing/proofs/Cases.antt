@@ -22,12 +22,12 @@ use Rattle.link_framing.proofs.Fronts.{length_there, payload_short, payload_larg
 
 -- ---- bytes that a frame may have, made whole by zeros
 
-IsBytes-append : (xs ys : List ℕ) → IsBytes xs → IsBytes ys → IsBytes (xs ++ ys)
+pub IsBytes-append : (xs ys : List ℕ) → IsBytes xs → IsBytes ys → IsBytes (xs ++ ys)
 IsBytes-append [] ys f g i = g i
 IsBytes-append (x ∷ xs) ys f g zero = f zero
 IsBytes-append (x ∷ xs) ys f g (suc i) = IsBytes-append xs ys (IsBytes-rest x xs f) g i
 
-IsBytes-zeros : (n : ℕ) → IsBytes (replicate n 0)
+pub IsBytes-zeros : (n : ℕ) → IsBytes (replicate n 0)
 IsBytes-zeros zero i = lit< tt
 IsBytes-zeros (suc n) zero = lit< tt
 IsBytes-zeros (suc n) (suc i) = IsBytes-zeros n i
@@ -35,7 +35,7 @@ IsBytes-zeros (suc n) (suc i) = IsBytes-zeros n i
 IsBytes-drop : (n : ℕ) (bytes : List ℕ) → IsBytes bytes → IsBytes (drop n bytes)
 IsBytes-drop n bytes fits = IsBytes-behind (take n bytes) (drop n bytes) (subst IsBytes (sym (take-append-drop n bytes)) fits)
 
-one_byte : (b : ℕ) → b < 256 → number 1 b ≡ b ∷ []
+pub one_byte : (b : ℕ) → b < 256 → number 1 b ≡ b ∷ []
 unfolding number
 one_byte b lt = let e : b % 256 ≡ b = omega arith in grind (arith, e)
 
@@ -50,9 +50,9 @@ payload_front tail fits there within lt =
     let filled : length message ≡ len = omega (arith, length-append (drop 7 tail) zeros, length-drop 7 tail, length-replicate {A = ℕ} k 0) in
     let four : number 4 sequence ≡ take 4 tail = number-big_number 4 (take 4 tail) (omega (arith, length-take 4 tail)) (IsBytes-take 4 tail fits) in
     let three : number 3 len ≡ take 3 (drop 4 tail) = ap (number 3) (sym (length_there 128 tail there))
-        ∙ number-big_number 3 (take 3 (drop 4 tail)) (omega (arith, length-take 3 (drop 4 tail), length-drop 4 tail)) (IsBytes-take 3 (drop 4 tail) (IsBytes-drop 4 tail fits)) in
+    ∙ number-big_number 3 (take 3 (drop 4 tail)) (omega (arith, length-take 3 (drop 4 tail), length-drop 4 tail)) (IsBytes-take 3 (drop 4 tail) (IsBytes-drop 4 tail fits)) in
     let text : take 4 tail ++ (take 3 (drop 4 tail) ++ drop 7 tail) ≡ tail =
-        ap (λ (r : List ℕ). take 4 tail ++ r) (ap (λ (r : List ℕ). take 3 (drop 4 tail) ++ r) (sym (drop-drop 3 4 tail)) ∙ take-append-drop 3 (drop 4 tail)) ∙ take-append-drop 4 tail in
+    ap (λ (r : List ℕ). take 4 tail ++ r) (ap (λ (r : List ℕ). take 3 (drop 4 tail) ++ r) (sym (drop-drop 3 4 tail)) ∙ take-append-drop 3 (drop 4 tail)) ∙ take-append-drop 4 tail in
     let regrouped : take 4 tail ++ (take 3 (drop 4 tail) ++ (drop 7 tail ++ zeros)) ≡ (take 4 tail ++ (take 3 (drop 4 tail) ++ drop 7 tail)) ++ zeros = simp append_assoc in
     record {
       whole = Payload sequence message;
@@ -60,10 +60,10 @@ payload_front tail fits there within lt =
       fits = (big_number-lt 4 (take 4 tail) (IsBytes-take 4 tail fits), omega (arith, filled));
       some = omega (arith, length-replicate {A = ℕ} k 0);
       spelled = ap (λ (n : ℕ). number 1 128 ++ (number 4 sequence ++ (number 3 n ++ message))) filled
-        ∙ ap (λ (r : List ℕ). number 1 128 ++ (r ++ (number 3 len ++ message))) four
-        ∙ ap (λ (r : List ℕ). number 1 128 ++ (take 4 tail ++ (r ++ message))) three
-        ∙ ap (λ (r : List ℕ). r ++ (take 4 tail ++ (take 3 (drop 4 tail) ++ message))) (one_byte 128 (lit< tt))
-        ∙ ap (λ (r : List ℕ). 128 ∷ r) (regrouped ∙ ap (λ (r : List ℕ). r ++ zeros) text);
+          ∙ ap (λ (r : List ℕ). number 1 128 ++ (r ++ (number 3 len ++ message))) four
+          ∙ ap (λ (r : List ℕ). number 1 128 ++ (take 4 tail ++ (r ++ message))) three
+          ∙ ap (λ (r : List ℕ). r ++ (take 4 tail ++ (take 3 (drop 4 tail) ++ message))) (one_byte 128 (lit< tt))
+          ∙ ap (λ (r : List ℕ). 128 ∷ r) (regrouped ∙ ap (λ (r : List ℕ). r ++ zeros) text);
     }
 
 ack_front : (tail : List ℕ) → IsBytes tail → length tail < 8 → IsFront (129 ∷ tail)
@@ -82,9 +82,9 @@ ack_front tail fits lt =
       fits = (big_number-lt 4 (take 4 full) (IsBytes-take 4 full bytes), big_number-lt 4 (drop 4 full) (IsBytes-drop 4 full bytes));
       some = omega (arith, length-replicate {A = ℕ} k 0);
       spelled = ap (λ (r : List ℕ). number 1 129 ++ (r ++ number 4 (big_number 4 (drop 4 full)))) first
-        ∙ ap (λ (r : List ℕ). number 1 129 ++ (take 4 full ++ r)) second
-        ∙ ap (λ (r : List ℕ). number 1 129 ++ r) (take-append-drop 4 full)
-        ∙ ap (λ (r : List ℕ). r ++ full) (one_byte 129 (lit< tt));
+          ∙ ap (λ (r : List ℕ). number 1 129 ++ (take 4 full ++ r)) second
+          ∙ ap (λ (r : List ℕ). number 1 129 ++ r) (take-append-drop 4 full)
+          ∙ ap (λ (r : List ℕ). r ++ full) (one_byte 129 (lit< tt));
     }
 
 -- nothing is less than a frame
@@ -109,12 +109,12 @@ payload_judged place tail fits =
     elim (cases_lt (length tail) 7) [
       | inl few ↦ let e = payload_short (place + 1) tail few in rw e.1 (inr (refl, omega arith))
       | inr there ↦ elim (cases_lt most (length_in (128 ∷ tail))) [
-          | inl large ↦ rw (payload_large 128 (place + 1) tail there large) (record { code = refl; there = omega arith; large = large }, omega arith)
-          | inr within ↦ elim (cases_lt (length tail) (7 + length_in (128 ∷ tail))) [
-              | inl lt ↦ rw (payload_past 128 (place + 1) tail there within lt) (inl (payload_front tail fits there within lt))
-              | inr le ↦ let e = payload_whole 128 (place + 1) tail there within le in rw e.1 tt
-            ]
+        | inl large ↦ rw (payload_large 128 (place + 1) tail there large) (record { code = refl; there = omega arith; large = large }, omega arith)
+        | inr within ↦ elim (cases_lt (length tail) (7 + length_in (128 ∷ tail))) [
+          | inl lt ↦ rw (payload_past 128 (place + 1) tail there within lt) (inl (payload_front tail fits there within lt))
+          | inr le ↦ let e = payload_whole 128 (place + 1) tail there within le in rw e.1 tt
         ]
+      ]
     ]
 
 ack_judged : (place : ℕ) (tail : List ℕ) → IsBytes tail → Judged place (129 ∷ tail) (ack_at (part (place + 1) tail))
@@ -129,9 +129,9 @@ code_judged place b tail fits =
     elim (eqb b 128) as (λ t. eqb b 128 ≡ t → Judged place (b ∷ tail) (cond t payload_at (cond (eqb b 129) ack_at (refused place BadValue)) (part (place + 1) tail))) [
       | true ↦ λ is. subst (λ (c : ℕ). Judged place (c ∷ tail) (payload_at (part (place + 1) tail))) (sym (eqb-true b 128 is)) (payload_judged place tail fits)
       | false ↦ λ not_one. elim (eqb b 129) as (λ t. eqb b 129 ≡ t → Judged place (b ∷ tail) (cond t ack_at (refused place BadValue) (part (place + 1) tail))) [
-          | true ↦ λ is. subst (λ (c : ℕ). Judged place (c ∷ tail) (ack_at (part (place + 1) tail))) (sym (eqb-true b 129 is)) (ack_judged place tail fits)
-          | false ↦ λ not_two. ((eqb-false b 128 not_one, eqb-false b 129 not_two), refl)
-        ] refl
+        | true ↦ λ is. subst (λ (c : ℕ). Judged place (c ∷ tail) (ack_at (part (place + 1) tail))) (sym (eqb-true b 129 is)) (ack_judged place tail fits)
+        | false ↦ λ not_two. ((eqb-false b 128 not_one, eqb-false b 129 not_two), refl)
+      ] refl
     ] refl
 
 pub judged : (place : ℕ) (bytes : List ℕ) → IsBytes bytes → Judged place bytes (frame_at (part place bytes))
@@ -172,7 +172,7 @@ frame_not_large f rest bytes fits spelled is = never f rest bytes fits spelled (
 pub frame_not_partial : (f : Frame) (rest bytes : List ℕ) → IsFrame f → bytes ≡ frame f ++ rest → IsPartial bytes → ⊥
 frame_not_partial f rest bytes fits spelled (inl front) =
     let whole : frame front.whole ++ [] ≡ frame f ++ (rest ++ front.missing) =
-        append-nil (frame front.whole) ∙ front.spelled ∙ ap (λ (b : List ℕ). b ++ front.missing) spelled ∙ append_assoc (frame f) rest front.missing in
+    append-nil (frame front.whole) ∙ front.spelled ∙ ap (λ (b : List ℕ). b ++ front.missing) spelled ∙ append_assoc (frame f) rest front.missing in
     let same = frame_once front.whole f [] (rest ++ front.missing) front.fits fits whole in
     absurd (omega (arith, ap length same.1, length-append rest front.missing, front.some))
 frame_not_partial f rest bytes fits spelled (inr short) = never f rest bytes fits spelled (short_read 0 bytes short.0 short.1)

@@ -68,9 +68,9 @@ code_takes place code p f q bytes e =
     elim (eqb code 128) as (λ b. eqb code 128 ≡ b → cond b payload_at (cond (eqb code 129) ack_at (refused place BadValue)) p ≡ Ok (f, q) → FollowsCode code p f q) [
       | true ↦ λ is g. subst (λ (c : ℕ). FollowsCode c p f q) (sym (eqb-true code 128 is)) (payload_takes p f q bytes g)
       | false ↦ λ _ g. elim (eqb code 129) as (λ b. eqb code 129 ≡ b → cond b ack_at (refused place BadValue) p ≡ Ok (f, q) → FollowsCode code p f q) [
-          | true ↦ λ is h. subst (λ (c : ℕ). FollowsCode c p f q) (sym (eqb-true code 129 is)) (ack_takes p f q bytes h)
-          | false ↦ λ _ h. absurd cc
-        ] refl g
+        | true ↦ λ is h. subst (λ (c : ℕ). FollowsCode c p f q) (sym (eqb-true code 129 is)) (ack_takes p f q bytes h)
+        | false ↦ λ _ h. absurd cc
+      ] refl g
     ] refl e
 
 -- what is read is spelled so

@@ -4,3 +4,4 @@ pub mod Cases
 pub mod Taken
 pub mod Runs
 pub mod Heard
+pub mod Missing

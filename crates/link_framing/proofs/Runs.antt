@@ -45,7 +45,7 @@ readings [] (g ∷ gs) rest last each also end stop e = absurd (end_not_frame g 
 readings (f ∷ fs) [] rest last each also end stop e = absurd (end_not_frame f (flat_map frame fs ++ rest) last each.0 (sym e ∙ append_assoc (frame f) (flat_map frame fs) rest) stop)
 readings (f ∷ fs) (g ∷ gs) rest last each also end stop e =
     let same = frame_once f g (flat_map frame fs ++ rest) (flat_map frame gs ++ last) each.0 also.0
-        (sym (append_assoc (frame f) (flat_map frame fs) rest) ∙ e ∙ append_assoc (frame g) (flat_map frame gs) last) in
+    (sym (append_assoc (frame f) (flat_map frame fs) rest) ∙ e ∙ append_assoc (frame g) (flat_map frame gs) last) in
     let others = readings fs gs rest last each.1 also.1 end stop same.1 in
     (ap (λ (x : Frame). x ∷ fs) same.0 ∙ ap (λ (xs : List Frame). g ∷ xs) others.0, others.1)
 

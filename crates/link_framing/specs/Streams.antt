@@ -98,6 +98,18 @@ nothing = record { place = 0; bytes = [] }
 
 -- ---- how much is missing
 
+-- the least number of further bytes after which this holds
+pub record IsLeastMore (Holds : List ℕ → Type 0) (bytes : List ℕ) (n : ℕ) : Type 0 where
+  pub more : List ℕ
+  pub count : length more ≡ n
+  pub reached : Holds (bytes ++ more)
+  pub least : (other : List ℕ) → Holds (bytes ++ other) → n ≤ length other
+
+-- the least number of bytes that are missing to a frame or, where none can come any more, to a fault
+abbrev pub IsMissing : List ℕ → ℕ → Type 0
+IsMissing bytes n = IsLeastMore BeginsFrame bytes n
+    ⊎ (((more : List ℕ) → BeginsFrame (bytes ++ more) → ⊥) × IsLeastMore (λ more. IsBadType more ⊎ IsTooLarge more) bytes n)
+
 -- the least length of a payload's message, as far as it is there, and 0 where that is too large
 abbrev pub least_message : List ℕ → ℕ
 least_message bytes = if nat_le (length_in bytes) most then length_in bytes else 0

@@ -2,7 +2,7 @@
 
 ghost use Rattle.std.specs.Prelude.{◌≡◌, ◌+◌, ◌^◌, ◌<◌, ℕ, List, length, slice_index};
 ghost use Rattle.link_framing.specs.Finds.{Finds, Says};
-ghost use Rattle.link_framing.specs.Streams.{wanted, length_in, least_message};
+ghost use Rattle.link_framing.specs.Streams.{IsMissing, wanted, least_whole, length_in, least_message};
 
 use crate::frame::{Frame, FrameFault};
 use crate::layout::take_frame;
@@ -38,17 +38,24 @@ fn told(bad: Bad) -> Result<Option<(Frame, usize)>, FrameFault>
 }
 
 /// How many bytes are missing to the next frame at the least or, where none can come, to the fault.
-#[tactic(auto, unfolding(crate::specs::Streams::least_whole))]
 pub fn wanted_by(held: &[u8]) -> u64
-    ensures { result ≡ wanted held.now }
+    ensures value { result ≡ wanted held.now }
+    ensures missing { IsMissing held.now result }
 {
-    let whole = match held.first() {
+    least_whole(held).saturating_sub(held.len() as u64)
+}
+
+/// How many bytes a frame that begins so has at the least or, where its length is too large, the fault.
+#[tactic(auto, unfolding(crate::specs::Streams::least_whole))]
+fn least_whole(held: &[u8]) -> u64
+    ensures { result ≡ least_whole held.now }
+{
+    match held.first() {
         None => 8,
         Some(128) => 8 + u64::from(least_length(held)),
         Some(129) => 9,
         Some(_) => 0,
-    };
-    whole.saturating_sub(held.len() as u64)
+    }
 }
 
 /// The least length that a payload's message can have, as far as it is there; 0 where that is too large.

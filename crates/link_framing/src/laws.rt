@@ -18,23 +18,20 @@ pub fn fed_is_taken_and_held()
         → held.place ≡ length (flat_map frame (taken_by calls)) }
     ensures stream { (calls : List Call) → (held : Part) → Run nothing calls held → IsEnd held.bytes
         → Stream (taken_by calls) (fed_by calls) held.bytes }
-{
-}
+{}
 
 /// A stream is read in one way.
 pub fn one_reading()
     ensures { (fs gs : List Frame) → (bytes rest last : List ℕ) → Stream fs bytes rest → Stream gs bytes last
         → (fs ≡ gs) × (rest ≡ last) }
-{
-}
+{}
 
 /// Two readers that were fed the same stream, however it was cut and whenever frames were taken, have given the same
 /// frames, once neither has a further one.
 pub fn any_cutting()
     ensures { (a b : List Call) → (x y : Part) → Run nothing a x → Run nothing b y → fed_by a ≡ fed_by b
         → IsEnd x.bytes → IsEnd y.bytes → (taken_by a ≡ taken_by b) × (x ≡ y) }
-{
-}
+{}
 
 /// A fault stays at its place, whatever calls follow.
 pub fn faults_stay()
@@ -42,5 +39,4 @@ pub fn faults_stay()
         → IsBadType old.bytes → IsBadType new.bytes × (new.place ≡ old.place) }
     ensures too_large { (calls : List Call) → (old new : Part) → Run old calls new
         → IsTooLarge old.bytes → IsTooLarge new.bytes × (new.place ≡ old.place) }
-{
-}
+{}

@@ -7,6 +7,8 @@ mod front;
 mod laws;
 mod layout;
 mod reader;
+#[cfg(test)]
+mod tests;
 
 pub use acks::Acks;
 pub use frame::{Frame, FrameFault, encode_frame};

@@ -3,7 +3,7 @@
 ghost use Rattle.std.specs.Prelude.{◌≡◌, ◌+◌, ◌^◌, ◌<◌, ◌≤◌, ◌↔◌, ℕ, [], length, drop, OnOk, OnErr, MatchResult, IfOk, MatchOption, Ok, Err, None};
 ghost use Rattle.std.specs.Option.{IfSome};
 ghost use Rattle.wire_core.specs.Part.{end_of, behind};
-ghost use Rattle.link_framing.specs.Streams.{IsPartial, IsBadType, IsTooLarge, Takes, fed, nothing, wanted};
+ghost use Rattle.link_framing.specs.Streams.{IsPartial, IsBadType, IsTooLarge, IsMissing, Takes, fed, nothing, wanted};
 
 use crate::frame::{Frame, FrameFault};
 use crate::front::{first_frame, wanted_by};
@@ -91,7 +91,8 @@ impl FrameReader {
     /// The number of bytes that surely are missing to the next frame or, where none can come any more, to the fault.
     /// It is 0 where a frame or a fault is ready.
     pub fn wanted(&self) -> u64
-        ensures { result ≡ wanted self.now.bytes }
+        ensures value { result ≡ wanted self.now.bytes }
+        ensures missing { IsMissing self.now.bytes result }
     {
         wanted_by(self.held())
     }

@@ -11,7 +11,7 @@ loop-k-preserved c =
       small = bit.small;
       lowest = bit.others 0 (λ e. omega (arith, e, c.loop-k.auto.k)) ∙ so_far.lowest;
       below = bits_more (λ j. cond (heard_before c.args.self.now c.args.n j) 1 0) c.loop-k.mask c.with_bit-mask.result c.loop-k.k so_far.below
-        (bit.there ∙ ap (λ b. cond b 1 0) c.heard_before.ensures) bit.others;
+          (bit.there ∙ ap (λ b. cond b 1 0) c.heard_before.ensures) bit.others;
       above = λ j le. bit.others j (λ e. omega (arith, e, le)) ∙ so_far.above j (omega arith);
     }
 
