@@ -1,14 +1,13 @@
 -- What bytes may begin with: a frame, less than a frame, or a fault, and one of them alone.
-use Rattle.std.proofs.Common.{◌≡◌, ◌≢◌, ℕ, zero, suc, ◌+◌, ◌-◌, ◌*◌, ◌%◌, ◌^◌, ◌<◌, ◌≤◌, ◌⊎◌, inl, inr, Bool, true, false, cond, eqb, List, [], ◌∷◌, ◌++◌, length, get_or, take, drop, replicate, Result, Ok, Err, refl, sym, ap, subst, ◌∙◌, append_assoc, append-nil, length-append, lit<, arith}
+use Rattle.std.proofs.Common.{◌≡◌, ℕ, zero, suc, ◌+◌, ◌-◌, ◌%◌, ◌<◌, ◌≤◌, inl, inr, true, false, cond, eqb, List, [], ◌∷◌, ◌++◌, length, get_or, take, drop, replicate, Result, Ok, Err, refl, sym, ap, subst, ◌∙◌, append_assoc, append-nil, length-append, lit<, arith}
 use Rattle.std.proofs.lemmas.Bool.{eqb-true, eqb-false, ne_eqb, eq-eqb, cases_lt}
 use Rattle.std.proofs.lemmas.List.{length-take, length-drop, length-replicate, take-append-drop, drop-drop, get_or_append_left}
 use Rattle.byteorder.specs.Endian.{big_number}
 use Rattle.wire_core.specs.declared.bad.Bad.{Bad}
-use Rattle.wire_core.specs.declared.bad.Reason.{Reason}
-use Rattle.wire_core.specs.declared.bad.Reason.TheVariants.{Short, LengthPast, BadValue, Trailing, TooLarge}
+use Rattle.wire_core.specs.declared.bad.Reason.TheVariants.{BadValue}
 use Rattle.wire_core.specs.Part.{Part}
-use Rattle.wire_core.specs.Spelling.{number, vector}
-use Rattle.wire_core.specs.Reading.{and_then, refused}
+use Rattle.wire_core.specs.Spelling.{number}
+use Rattle.wire_core.specs.Reading.{refused}
 use Rattle.wire_core.proofs.Bytes.{IsBytes, IsBytes-take, IsBytes-rest, IsBytes-behind, length-number, number-big_number, big_number-lt}
 use Rattle.wire_core.proofs.Laws.{part}
 use Rattle.link_framing.specs.declared.frame.Frame.{Frame}

@@ -1,22 +1,21 @@
 -- What is read at the front of bytes, in each case.
-use Rattle.std.proofs.Common.{◌≡◌, ◌≢◌, ℕ, suc, ◌+◌, ◌-◌, ◌*◌, ◌^◌, ◌<◌, ◌≤◌, ◌⊎◌, inl, inr, Bool, true, false, cond, eqb, ltb, leb, List, [], ◌∷◌, ◌++◌, length, get_or, take, drop, replicate, Result, Ok, Err, refl, sym, ap, subst, ◌∙◌, append_assoc, length-append, lit<, arith}
-use Rattle.std.proofs.lemmas.Bool.{ltb-true, ltb-false, le-ltb, lt-ltb, le-leb, lt-leb, eqb-true, eqb-false, ne_eqb, eq-eqb, cases_lt}
-use Rattle.std.proofs.lemmas.List.{length-take, length-drop, length-replicate, take_at, drop_at, take-append-drop, drop-drop, take-append-le, drop-append-le, get_or-drop, get_or-take, nil_from_length}
+use Rattle.std.proofs.Common.{◌≡◌, ℕ, ◌+◌, ◌^◌, ◌<◌, ◌≤◌, inl, inr, true, false, ltb, leb, List, [], ◌∷◌, length, get_or, take, drop, Ok, Err, refl, ap, ◌∙◌, lit<, arith}
+use Rattle.std.proofs.lemmas.Bool.{le-ltb, lt-ltb, le-leb, lt-leb, cases_lt}
+use Rattle.std.proofs.lemmas.List.{length-drop, drop-drop, get_or-drop, get_or-take}
 use Rattle.byteorder.specs.Endian.{big_number}
 use Rattle.wire_core.specs.declared.bad.Bad.{Bad}
 use Rattle.wire_core.specs.declared.bad.Reason.{Reason}
-use Rattle.wire_core.specs.declared.bad.Reason.TheVariants.{Short, LengthPast, BadValue, Trailing, TooLarge}
-use Rattle.wire_core.specs.Part.{Part, behind}
-use Rattle.wire_core.specs.Spelling.{number, vector}
-use Rattle.wire_core.specs.Reading.{Reader, and_then, ◌>>=◌, done, refused, allowed, place_at, bytes_at, number_at, limited_at, stretch_at}
-use Rattle.wire_core.proofs.Bytes.{IsBytes, IsBytes-take, IsBytes-rest, length-number, number-big_number, big_number-lt}
+use Rattle.wire_core.specs.declared.bad.Reason.TheVariants.{Short, LengthPast, TooLarge}
+use Rattle.wire_core.specs.Part.{Part}
+use Rattle.wire_core.specs.Reading.{allowed, place_at, bytes_at, number_at, limited_at, stretch_at}
+use Rattle.wire_core.proofs.Bytes.{IsBytes}
 use Rattle.wire_core.proofs.Laws.{part}
 use Rattle.link_framing.specs.declared.frame.Frame.{Frame}
 use Rattle.link_framing.specs.declared.frame.Frame.TheVariants.{Payload, Ack}
-use Rattle.link_framing.specs.Framing.{most, frame, IsFrame}
+use Rattle.link_framing.specs.Framing.{most}
 use Rattle.link_framing.specs.Reading.{payload_at, ack_at, frame_at}
-use Rattle.link_framing.specs.Streams.{BeginsWith, IsFront, IsPartial, IsBadType, IsTooLarge, length_in}
-use Rattle.link_framing.proofs.Layouts.{behind_code, frame_again}
+use Rattle.link_framing.specs.Streams.{length_in}
+use Rattle.link_framing.proofs.Layouts.{behind_code}
 
 abbrev bad : ℕ → Reason → Bad
 bad place reason = record { place = place; reason = reason }

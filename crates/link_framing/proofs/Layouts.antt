@@ -1,13 +1,12 @@
 -- A frame as it is read and as it is spelled.
-use Rattle.std.proofs.Common.{◌≡◌, ℕ, ◌+◌, ◌^◌, ◌<◌, ◌≤◌, Bool, true, false, cond, eqb, ltb, List, [], ◌∷◌, ◌++◌, length, take, drop, Result, Ok, Err, refl, sym, ap, subst, ◌∙◌, append_assoc, length-append, lit<, arith}
+use Rattle.std.proofs.Common.{◌≡◌, ℕ, ◌+◌, ◌^◌, ◌<◌, ◌≤◌, true, false, cond, eqb, ltb, List, ◌++◌, length, take, Ok, refl, sym, ap, subst, ◌∙◌, append_assoc, length-append, lit<, arith}
 use Rattle.std.proofs.lemmas.Bool.{ltb-false, le-ltb, eqb-true}
 use Rattle.std.proofs.lemmas.List.{length-take, take_at, drop_at, take-append-drop}
-use Rattle.wire_core.specs.declared.bad.Bad.{Bad}
 use Rattle.wire_core.specs.declared.bad.Reason.TheVariants.{BadValue}
 use Rattle.wire_core.specs.Part.{Part, behind}
 use Rattle.wire_core.specs.Spelling.{number, vector}
 use Rattle.wire_core.specs.Reading.{Reader, and_then, ◌>>=◌, done, refused, place_at, number_at, limited_at, stretch_at}
-use Rattle.wire_core.proofs.Bytes.{IsBytes, length-number}
+use Rattle.wire_core.proofs.Bytes.{IsBytes}
 use Rattle.wire_core.proofs.Laws.{part, Follows, Follows-then, IsBytes-follows, then_ok, ok_is}
 use Rattle.wire_core.proofs.Words.{guard_ok, number_laid, limited_laid}
 use Rattle.link_framing.specs.declared.frame.Frame.{Frame}

@@ -1,17 +1,16 @@
 -- The number that is computed is the number of bytes that are missing.
-use Rattle.std.proofs.Common.{◌≡◌, ℕ, zero, suc, ◌+◌, ◌-◌, ◌*◌, ◌^◌, ◌<◌, ◌≤◌, ◌⊎◌, inl, inr, Bool, true, false, cond, eqb, leb, List, [], ◌∷◌, ◌++◌, length, get_or, take, drop, replicate, Result, Ok, Err, refl, sym, ap, subst, ◌∙◌, append_assoc, append-nil, length-append, lit<, arith}
+use Rattle.std.proofs.Common.{◌≡◌, ℕ, zero, suc, ◌+◌, ◌-◌, ◌≤◌, inl, inr, true, false, cond, eqb, leb, List, [], ◌∷◌, ◌++◌, length, get_or, take, drop, replicate, Ok, refl, sym, ap, subst, ◌∙◌, append_assoc, append-nil, length-append, lit<, arith}
 use Rattle.std.proofs.lemmas.Bool.{eqb-true, eqb-false, le-leb, lt-leb, cases_lt}
 use Rattle.std.proofs.lemmas.List.{length-replicate, take_at, drop_at}
 use Rattle.byteorder.specs.Endian.{big_number}
-use Rattle.wire_core.specs.Part.{Part}
 use Rattle.wire_core.specs.Spelling.{number, vector}
-use Rattle.wire_core.proofs.Bytes.{IsBytes, IsBytes-rest, length-number, big_number-number}
+use Rattle.wire_core.proofs.Bytes.{IsBytes, length-number, big_number-number}
 use Rattle.wire_core.proofs.Laws.{part}
 use Rattle.link_framing.specs.declared.frame.Frame.{Frame}
 use Rattle.link_framing.specs.declared.frame.Frame.TheVariants.{Payload, Ack}
 use Rattle.link_framing.specs.Framing.{most, frame, IsFrame}
-use Rattle.link_framing.specs.Reading.{payload_at, ack_at, frame_at}
-use Rattle.link_framing.specs.Streams.{BeginsFrame, BeginsWith, IsBadType, IsTooLarge, length_in, least_message, least_whole, wanted, IsLeastMore, IsMissing}
+use Rattle.link_framing.specs.Reading.{frame_at}
+use Rattle.link_framing.specs.Streams.{BeginsFrame, BeginsWith, IsBadType, length_in, least_message, least_whole, wanted, IsMissing}
 use Rattle.link_framing.proofs.Layouts.{behind_code}
 use Rattle.link_framing.proofs.Fronts.{length_there, payload_whole, ack_whole, frame_some}
 use Rattle.link_framing.proofs.Cases.{IsBytes-append, IsBytes-zeros, one_byte, frame_not_bad}

@@ -1,10 +1,10 @@
 -- What any calls on a reader do together, and that a stream has one reading.
-use Rattle.std.proofs.Common.{◌≡◌, ℕ, ◌+◌, ◌⊎◌, inl, inr, List, [], ◌∷◌, ◌++◌, length, refl, sym, ap, subst, ◌∙◌, append_assoc, append-nil, length-append, arith}
+use Rattle.std.proofs.Common.{◌≡◌, ℕ, ◌+◌, inl, inr, List, [], ◌∷◌, ◌++◌, length, refl, sym, ap, subst, ◌∙◌, append_assoc, append-nil, length-append, arith}
 use Rattle.std.specs.List.{flat_map, AllByRecursion}
 use Rattle.wire_core.specs.Part.{Part}
 use Rattle.link_framing.specs.declared.frame.Frame.{Frame}
 use Rattle.link_framing.specs.Framing.{frame, IsFrame}
-use Rattle.link_framing.specs.Streams.{IsPartial, IsBadType, IsTooLarge, IsEnd, Stream, fed, Takes, Call, Fed, Took, Step, Run, fed_by, taken_by, nothing}
+use Rattle.link_framing.specs.Streams.{IsBadType, IsTooLarge, IsEnd, Stream, Call, Fed, Took, Run, fed_by, taken_by, nothing}
 use Rattle.link_framing.proofs.Layouts.{frame_once}
 use Rattle.link_framing.proofs.Cases.{frame_not_bad, frame_not_large, frame_not_partial, bad_type_more, too_large_more}
 

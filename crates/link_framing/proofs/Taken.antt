@@ -1,15 +1,15 @@
 -- What the front of a stream gives, and that it gives nothing else.
-use Rattle.std.proofs.Common.{◌≡◌, ℕ, ◌+◌, ◌-◌, ◌≤◌, ◌↔◌, List, [], ◌∷◌, ◌++◌, length, drop, Option, Some, None, Result, Ok, Err, refl, sym, ap, subst, ◌∙◌, length-append, arith}
+use Rattle.std.proofs.Common.{◌≡◌, ℕ, ◌+◌, ◌-◌, ◌≤◌, ◌↔◌, List, ◌++◌, length, drop, Option, Some, None, Result, Ok, Err, refl, sym, ap, subst, ◌∙◌, length-append, arith}
 use Rattle.std.specs.Result.{IsOk}
 use Rattle.std.proofs.lemmas.List.{drop_at}
 use Rattle.wire_core.specs.declared.bad.Bad.{Bad}
 use Rattle.wire_core.specs.Part.{Part}
 use Rattle.wire_core.proofs.Bytes.{IsBytes}
-use Rattle.wire_core.proofs.Laws.{part, Follows}
+use Rattle.wire_core.proofs.Laws.{part}
 use Rattle.link_framing.specs.declared.frame.Frame.{Frame}
 use Rattle.link_framing.specs.declared.frame.FrameFault.{FrameFault}
 use Rattle.link_framing.specs.declared.frame.FrameFault.TheVariants as faults
-use Rattle.link_framing.specs.Framing.{frame, IsFrame}
+use Rattle.link_framing.specs.Framing.{frame}
 use Rattle.link_framing.specs.Reading.{frame_at}
 use Rattle.link_framing.specs.Finds.{Finds, Says}
 use Rattle.link_framing.specs.Streams.{BeginsFrame, IsPartial, IsBadType, IsTooLarge}

@@ -1,5 +1,5 @@
 -- Reading a frame from the front of what is held of a stream.
-use Rattle.std.specs.Prelude.{ℕ, ◌==◌, if◌then◌else◌}
+use Rattle.std.specs.Prelude.{◌==◌, if◌then◌else◌}
 use Rattle.wire_core.specs.declared.bad.Reason.TheVariants.{BadValue}
 use Rattle.wire_core.specs.Reading.{Reader, ◌>>=◌, done, refused, place_at, number_at, limited_at, stretch_at}
 use Rattle.link_framing.specs.declared.frame.Frame.{Frame}

@@ -71,6 +71,7 @@ pub data Call : Type 0 where
   Fed : List ℕ → Call
   Took : Frame → Call
 
+-- what it does
 abbrev pub Step : Part → Call → Part → Type 0
 Step old (Fed piece) new = new ≡ fed piece old
 Step old (Took first) new = Takes first old new

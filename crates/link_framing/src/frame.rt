@@ -1,6 +1,6 @@
 //! The frames of a link.
 
-ghost use Rattle.std.specs.Prelude.{◌≡◌, ◌++◌, [], IfOk, OnOk};
+ghost use Rattle.std.specs.Prelude.{◌≡◌, ◌++◌, IfOk, OnOk};
 ghost use Rattle.link_framing.specs.Framing.{frame, IsWithin};
 
 use reload_base::{Bytes, NoMemory};

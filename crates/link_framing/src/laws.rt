@@ -1,6 +1,7 @@
-//! Laws of streams, each the contract of a function that does nothing.
+//! Laws of streams, each the contract of a function that does nothing. A `feed` that found memory and a `take` that gave
+//! a frame are the calls that they speak of. Any other answer leaves the reader as it was.
 
-ghost use Rattle.std.specs.Prelude.{◌≡◌, ◌+◌, ◌++◌, ℕ, List, length};
+ghost use Rattle.std.specs.Prelude.{◌≡◌, ◌++◌, ℕ, List, length};
 ghost use Rattle.std.specs.List.{flat_map, AllByRecursion};
 ghost use Rattle.wire_core.specs.Part.{Part};
 ghost use Rattle.link_framing.specs.declared.frame.Frame.{Frame};

@@ -1,6 +1,6 @@
 //! A reader of the frames of a stream that comes in pieces.
 
-ghost use Rattle.std.specs.Prelude.{◌≡◌, ◌+◌, ◌^◌, ◌<◌, ◌≤◌, ◌↔◌, ℕ, [], length, drop, OnOk, OnErr, MatchResult, IfOk, MatchOption, Ok, Err, None};
+ghost use Rattle.std.specs.Prelude.{◌≡◌, ◌+◌, ◌^◌, ◌<◌, ◌≤◌, ◌↔◌, ℕ, length, drop, OnOk, OnErr, MatchResult, IfOk, MatchOption, Ok, Err, None};
 ghost use Rattle.std.specs.Option.{IfSome};
 ghost use Rattle.wire_core.specs.Part.{end_of, behind};
 ghost use Rattle.link_framing.specs.Streams.{IsPartial, IsBadType, IsTooLarge, IsMissing, Takes, fed, nothing, wanted};
@@ -18,7 +18,7 @@ pub struct FrameReader {
     alloc: Global,
     buffer: Vec<u8>,
     /// Where the held bytes begin. What stands before was taken, and leaves the buffer once it is more than half of
-    /// it, so that a byte is moved twice at the most.
+    /// it, so that over a whole stream at most two bytes are moved for each byte taken.
     start: usize,
     place: u64,
 }

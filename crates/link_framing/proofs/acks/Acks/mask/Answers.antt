@@ -1,4 +1,4 @@
-use Rattle.std.proofs.Common.{◌≡◌, ◌≢◌, ◌≤◌, cond, ap, ◌∙◌, arith}
+use Rattle.std.proofs.Common.{cond, ap, ◌∙◌, arith}
 use Rattle.link_framing.specs.Acked.{heard_before}
 use Rattle.link_framing.proofs.Heard.{bits_more}
 use Rattle.link_framing.proofs.acks.Acks.mask.Goals as goal
