@@ -5,11 +5,10 @@ use Rattle.std.proofs.lemmas.List.{length-take, length-drop, length-replicate, t
 use Rattle.byteorder.specs.Endian.{big_number}
 use Rattle.wire_core.specs.declared.bad.Bad.{Bad}
 use Rattle.wire_core.specs.declared.bad.Reason.TheVariants.{BadValue}
-use Rattle.wire_core.specs.Part.{Part}
-use Rattle.wire_core.specs.Spelling.{number}
+use Rattle.wire_core.specs.Part.{Part, part}
+use Rattle.wire_core.specs.Spelling.{number, AreBytes}
 use Rattle.wire_core.specs.Reading.{refused}
-use Rattle.wire_core.proofs.Bytes.{IsBytes, IsBytes-take, IsBytes-rest, IsBytes-behind, length-number, number-big_number, big_number-lt}
-use Rattle.wire_core.proofs.Laws.{part}
+use Rattle.wire_core.proofs.Bytes.{AreBytes-take, AreBytes-rest, AreBytes-behind, length-number, number-big_number, big_number-lt}
 use Rattle.link_framing.specs.declared.frame.Frame.{Frame}
 use Rattle.link_framing.specs.declared.frame.Frame.TheVariants.{Payload, Ack}
 use Rattle.link_framing.specs.Framing.{most, frame, IsFrame}
@@ -21,24 +20,24 @@ use Rattle.link_framing.proofs.Fronts.{length_there, payload_short, payload_larg
 
 -- ---- bytes that a frame may have, made whole by zeros
 
-pub IsBytes-append : (xs ys : List ℕ) → IsBytes xs → IsBytes ys → IsBytes (xs ++ ys)
-IsBytes-append [] ys f g i = g i
-IsBytes-append (x ∷ xs) ys f g zero = f zero
-IsBytes-append (x ∷ xs) ys f g (suc i) = IsBytes-append xs ys (IsBytes-rest x xs f) g i
+pub AreBytes-append : (xs ys : List ℕ) → AreBytes xs → AreBytes ys → AreBytes (xs ++ ys)
+AreBytes-append [] ys f g i = g i
+AreBytes-append (x ∷ xs) ys f g zero = f zero
+AreBytes-append (x ∷ xs) ys f g (suc i) = AreBytes-append xs ys (AreBytes-rest x xs f) g i
 
-pub IsBytes-zeros : (n : ℕ) → IsBytes (replicate n 0)
-IsBytes-zeros zero i = lit< tt
-IsBytes-zeros (suc n) zero = lit< tt
-IsBytes-zeros (suc n) (suc i) = IsBytes-zeros n i
+pub AreBytes-zeros : (n : ℕ) → AreBytes (replicate n 0)
+AreBytes-zeros zero i = lit< tt
+AreBytes-zeros (suc n) zero = lit< tt
+AreBytes-zeros (suc n) (suc i) = AreBytes-zeros n i
 
-IsBytes-drop : (n : ℕ) (bytes : List ℕ) → IsBytes bytes → IsBytes (drop n bytes)
-IsBytes-drop n bytes fits = IsBytes-behind (take n bytes) (drop n bytes) (subst IsBytes (sym (take-append-drop n bytes)) fits)
+AreBytes-drop : (n : ℕ) (bytes : List ℕ) → AreBytes bytes → AreBytes (drop n bytes)
+AreBytes-drop n bytes fits = AreBytes-behind (take n bytes) (drop n bytes) (subst AreBytes (sym (take-append-drop n bytes)) fits)
 
 pub one_byte : (b : ℕ) → b < 256 → number 1 b ≡ b ∷ []
 unfolding number
 one_byte b lt = let e : b % 256 ≡ b = omega arith in grind (arith, e)
 
-payload_front : (tail : List ℕ) → IsBytes tail → 7 ≤ length tail → length_in (128 ∷ tail) ≤ most → length tail < 7 + length_in (128 ∷ tail) → IsFront (128 ∷ tail)
+payload_front : (tail : List ℕ) → AreBytes tail → 7 ≤ length tail → length_in (128 ∷ tail) ≤ most → length tail < 7 + length_in (128 ∷ tail) → IsFront (128 ∷ tail)
 unfolding frame
 payload_front tail fits there within lt =
     let len = length_in (128 ∷ tail) in
@@ -47,16 +46,16 @@ payload_front tail fits there within lt =
     let message = drop 7 tail ++ zeros in
     let sequence = big_number 4 (take 4 tail) in
     let filled : length message ≡ len = omega (arith, length-append (drop 7 tail) zeros, length-drop 7 tail, length-replicate {A = ℕ} k 0) in
-    let four : number 4 sequence ≡ take 4 tail = number-big_number 4 (take 4 tail) (omega (arith, length-take 4 tail)) (IsBytes-take 4 tail fits) in
+    let four : number 4 sequence ≡ take 4 tail = number-big_number 4 (take 4 tail) (omega (arith, length-take 4 tail)) (AreBytes-take 4 tail fits) in
     let three : number 3 len ≡ take 3 (drop 4 tail) = ap (number 3) (sym (length_there 128 tail there))
-    ∙ number-big_number 3 (take 3 (drop 4 tail)) (omega (arith, length-take 3 (drop 4 tail), length-drop 4 tail)) (IsBytes-take 3 (drop 4 tail) (IsBytes-drop 4 tail fits)) in
+    ∙ number-big_number 3 (take 3 (drop 4 tail)) (omega (arith, length-take 3 (drop 4 tail), length-drop 4 tail)) (AreBytes-take 3 (drop 4 tail) (AreBytes-drop 4 tail fits)) in
     let text : take 4 tail ++ (take 3 (drop 4 tail) ++ drop 7 tail) ≡ tail =
     ap (λ (r : List ℕ). take 4 tail ++ r) (ap (λ (r : List ℕ). take 3 (drop 4 tail) ++ r) (sym (drop-drop 3 4 tail)) ∙ take-append-drop 3 (drop 4 tail)) ∙ take-append-drop 4 tail in
     let regrouped : take 4 tail ++ (take 3 (drop 4 tail) ++ (drop 7 tail ++ zeros)) ≡ (take 4 tail ++ (take 3 (drop 4 tail) ++ drop 7 tail)) ++ zeros = simp append_assoc in
     record {
       whole = Payload sequence message;
       missing = zeros;
-      fits = (big_number-lt 4 (take 4 tail) (IsBytes-take 4 tail fits), omega (arith, filled));
+      fits = (big_number-lt 4 (take 4 tail) (AreBytes-take 4 tail fits), omega (arith, filled));
       some = omega (arith, length-replicate {A = ℕ} k 0);
       spelled = ap (λ (n : ℕ). number 1 128 ++ (number 4 sequence ++ (number 3 n ++ message))) filled
           ∙ ap (λ (r : List ℕ). number 1 128 ++ (r ++ (number 3 len ++ message))) four
@@ -65,20 +64,20 @@ payload_front tail fits there within lt =
           ∙ ap (λ (r : List ℕ). 128 ∷ r) (regrouped ∙ ap (λ (r : List ℕ). r ++ zeros) text);
     }
 
-ack_front : (tail : List ℕ) → IsBytes tail → length tail < 8 → IsFront (129 ∷ tail)
+ack_front : (tail : List ℕ) → AreBytes tail → length tail < 8 → IsFront (129 ∷ tail)
 unfolding frame
 ack_front tail fits lt =
     let k = 8 - length tail in
     let zeros = replicate k 0 in
     let full = tail ++ zeros in
-    let bytes = IsBytes-append tail zeros fits (IsBytes-zeros k) in
+    let bytes = AreBytes-append tail zeros fits (AreBytes-zeros k) in
     let eight : length full ≡ 8 = omega (arith, length-append tail zeros, length-replicate {A = ℕ} k 0) in
-    let first : number 4 (big_number 4 (take 4 full)) ≡ take 4 full = number-big_number 4 (take 4 full) (omega (arith, length-take 4 full)) (IsBytes-take 4 full bytes) in
-    let second : number 4 (big_number 4 (drop 4 full)) ≡ drop 4 full = number-big_number 4 (drop 4 full) (omega (arith, length-drop 4 full)) (IsBytes-drop 4 full bytes) in
+    let first : number 4 (big_number 4 (take 4 full)) ≡ take 4 full = number-big_number 4 (take 4 full) (omega (arith, length-take 4 full)) (AreBytes-take 4 full bytes) in
+    let second : number 4 (big_number 4 (drop 4 full)) ≡ drop 4 full = number-big_number 4 (drop 4 full) (omega (arith, length-drop 4 full)) (AreBytes-drop 4 full bytes) in
     record {
       whole = Ack (big_number 4 (take 4 full)) (big_number 4 (drop 4 full));
       missing = zeros;
-      fits = (big_number-lt 4 (take 4 full) (IsBytes-take 4 full bytes), big_number-lt 4 (drop 4 full) (IsBytes-drop 4 full bytes));
+      fits = (big_number-lt 4 (take 4 full) (AreBytes-take 4 full bytes), big_number-lt 4 (drop 4 full) (AreBytes-drop 4 full bytes));
       some = omega (arith, length-replicate {A = ℕ} k 0);
       spelled = ap (λ (r : List ℕ). number 1 129 ++ (r ++ number 4 (big_number 4 (drop 4 full)))) first
           ∙ ap (λ (r : List ℕ). number 1 129 ++ (take 4 full ++ r)) second
@@ -103,7 +102,7 @@ abbrev pub Judged : ℕ → List ℕ → Result (Frame × Part) Bad → Type 0
 Judged place bytes (Ok x) = Unit {0}
 Judged place bytes (Err fault) = Says place bytes fault.place fault.reason
 
-payload_judged : (place : ℕ) (tail : List ℕ) → IsBytes tail → Judged place (128 ∷ tail) (payload_at (part (place + 1) tail))
+payload_judged : (place : ℕ) (tail : List ℕ) → AreBytes tail → Judged place (128 ∷ tail) (payload_at (part (place + 1) tail))
 payload_judged place tail fits =
     elim (cases_lt (length tail) 7) [
       | inl few ↦ let e = payload_short (place + 1) tail few in rw e.1 (inr (refl, omega arith))
@@ -116,14 +115,14 @@ payload_judged place tail fits =
       ]
     ]
 
-ack_judged : (place : ℕ) (tail : List ℕ) → IsBytes tail → Judged place (129 ∷ tail) (ack_at (part (place + 1) tail))
+ack_judged : (place : ℕ) (tail : List ℕ) → AreBytes tail → Judged place (129 ∷ tail) (ack_at (part (place + 1) tail))
 ack_judged place tail fits =
     elim (cases_lt (length tail) 8) [
       | inl lt ↦ let e = ack_short (place + 1) tail lt in rw e.1 (inl (ack_front tail fits lt))
       | inr le ↦ let e = ack_whole (place + 1) tail le in rw e.1 tt
     ]
 
-code_judged : (place b : ℕ) (tail : List ℕ) → IsBytes tail → Judged place (b ∷ tail) (behind_code place b (part (place + 1) tail))
+code_judged : (place b : ℕ) (tail : List ℕ) → AreBytes tail → Judged place (b ∷ tail) (behind_code place b (part (place + 1) tail))
 code_judged place b tail fits =
     elim (eqb b 128) as (λ t. eqb b 128 ≡ t → Judged place (b ∷ tail) (cond t payload_at (cond (eqb b 129) ack_at (refused place BadValue)) (part (place + 1) tail))) [
       | true ↦ λ is. subst (λ (c : ℕ). Judged place (c ∷ tail) (payload_at (part (place + 1) tail))) (sym (eqb-true b 128 is)) (payload_judged place tail fits)
@@ -133,9 +132,9 @@ code_judged place b tail fits =
       ] refl
     ] refl
 
-pub judged : (place : ℕ) (bytes : List ℕ) → IsBytes bytes → Judged place bytes (frame_at (part place bytes))
+pub judged : (place : ℕ) (bytes : List ℕ) → AreBytes bytes → Judged place bytes (frame_at (part place bytes))
 judged place [] fits = rw (frame_none place) (inl empty_front)
-judged place (b ∷ tail) fits = rw (frame_some place b tail) (code_judged place b tail (IsBytes-rest b tail fits))
+judged place (b ∷ tail) fits = rw (frame_some place b tail) (code_judged place b tail (AreBytes-rest b tail fits))
 
 -- ---- one of them alone
 

@@ -6,10 +6,9 @@ use Rattle.byteorder.specs.Endian.{big_number}
 use Rattle.wire_core.specs.declared.bad.Bad.{Bad}
 use Rattle.wire_core.specs.declared.bad.Reason.{Reason}
 use Rattle.wire_core.specs.declared.bad.Reason.TheVariants.{Short, LengthPast, TooLarge}
-use Rattle.wire_core.specs.Part.{Part}
+use Rattle.wire_core.specs.Part.{Part, part}
 use Rattle.wire_core.specs.Reading.{allowed, place_at, bytes_at, number_at, limited_at, stretch_at}
-use Rattle.wire_core.proofs.Bytes.{IsBytes}
-use Rattle.wire_core.proofs.Laws.{part}
+use Rattle.wire_core.specs.Spelling.{AreBytes}
 use Rattle.link_framing.specs.declared.frame.Frame.{Frame}
 use Rattle.link_framing.specs.declared.frame.Frame.TheVariants.{Payload, Ack}
 use Rattle.link_framing.specs.Framing.{most}
@@ -35,7 +34,7 @@ length_there b tail le =
     let at : (i : ℕ) → i < 3 → get_or (take 3 (drop 4 tail)) i 0 ≡ get_or tail (4 + i) 0 = λ i lt. get_or-take 3 (drop 4 tail) i 0 lt ∙ get_or-drop 4 tail i 0 in
     omega (arith, at 0 (lit< tt), at 1 (lit< tt), at 2 (lit< tt))
 
-length_in_lt : (b : ℕ) (tail : List ℕ) → IsBytes tail → length_in (b ∷ tail) < 256 ^ 3
+length_in_lt : (b : ℕ) (tail : List ℕ) → AreBytes tail → length_in (b ∷ tail) < 256 ^ 3
 length_in_lt b tail fits = omega (arith, fits 4, fits 5, fits 6)
 
 -- ---- a payload behind its first byte

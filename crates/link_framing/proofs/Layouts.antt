@@ -3,11 +3,11 @@ use Rattle.std.proofs.Common.{◌≡◌, ℕ, ◌+◌, ◌^◌, ◌<◌, ◌≤�
 use Rattle.std.proofs.lemmas.Bool.{ltb-false, le-ltb, eqb-true}
 use Rattle.std.proofs.lemmas.List.{length-take, take_at, drop_at, take-append-drop}
 use Rattle.wire_core.specs.declared.bad.Reason.TheVariants.{BadValue}
-use Rattle.wire_core.specs.Part.{Part, behind}
-use Rattle.wire_core.specs.Spelling.{number, vector}
+use Rattle.wire_core.specs.Part.{Part, behind, part}
+use Rattle.wire_core.specs.Spelling.{number, vector, AreBytes}
 use Rattle.wire_core.specs.Reading.{Reader, and_then, ◌>>=◌, done, refused, place_at, number_at, limited_at, stretch_at}
-use Rattle.wire_core.proofs.Bytes.{IsBytes}
-use Rattle.wire_core.proofs.Laws.{part, Follows, Follows-then, IsBytes-follows, then_ok, ok_is}
+use Rattle.wire_core.specs.Layout.{Follows}
+use Rattle.wire_core.proofs.Laws.{Follows-then, AreBytes-follows, then_ok, ok_is}
 use Rattle.wire_core.proofs.Words.{guard_ok, number_laid, limited_laid}
 use Rattle.link_framing.specs.declared.frame.Frame.{Frame}
 use Rattle.link_framing.specs.declared.frame.Frame.TheVariants.{Payload, Ack}
@@ -34,13 +34,13 @@ stretch_again place at bytes rest =
 abbrev FollowsCode : ℕ → Part → Frame → Part → Type 0
 FollowsCode code p f q = IsFrame f × ((text : List ℕ) × (frame f ≡ number 1 code ++ text) × Follows p text q)
 
-payload_takes : (p : Part) (f : Frame) (q : Part) → IsBytes p.bytes → payload_at p ≡ Ok (f, q) → FollowsCode 128 p f q
+payload_takes : (p : Part) (f : Frame) (q : Part) → AreBytes p.bytes → payload_at p ≡ Ok (f, q) → FollowsCode 128 p f q
 unfolding payload_at frame place_at
 payload_takes p f q bytes e =
     let a = then_ok (number_at 4 p) (λ s m. and_then (limited_at 3 most m) (λ len. stretch_at m.place len >>= λ front. done (Payload s front.bytes))) (f, q) e in
     let t = (number_laid 4).takes p a.0 a.1 bytes a.2 in
     let b = then_ok (limited_at 3 most a.1) (λ len. stretch_at a.1.place len >>= λ front. done (Payload a.0 front.bytes)) (f, q) a.3 in
-    let u = (limited_laid 3 most).takes a.1 b.0 b.1 (IsBytes-follows p (number 4 a.0) a.1 bytes t.2) b.2 in
+    let u = (limited_laid 3 most).takes a.1 b.0 b.1 (AreBytes-follows p (number 4 a.0) a.1 bytes t.2) b.2 in
     let c = then_ok (stretch_at a.1.place b.0 b.1) (λ front. done (Payload a.0 front.bytes)) (f, q) b.3 in
     let v = stretch_takes a.1.place b.0 b.1 c.0 c.1 c.2 in
     let len = subst (λ (n : ℕ). Follows a.1 (number 3 n) b.1) (sym v.0) u.2 in
@@ -48,13 +48,13 @@ payload_takes p f q bytes e =
     subst (λ (r : Frame × Part). FollowsCode 128 p r.0 r.1) (ok_is (Payload a.0 c.0.bytes, c.1) (f, q) c.3)
     ((t.1, within), (number 4 a.0 ++ vector 3 c.0.bytes, refl, Follows-then p (number 4 a.0) a.1 (vector 3 c.0.bytes) c.1 t.2 (Follows-then a.1 (number 3 (length c.0.bytes)) b.1 c.0.bytes c.1 len v.1)))
 
-ack_takes : (p : Part) (f : Frame) (q : Part) → IsBytes p.bytes → ack_at p ≡ Ok (f, q) → FollowsCode 129 p f q
+ack_takes : (p : Part) (f : Frame) (q : Part) → AreBytes p.bytes → ack_at p ≡ Ok (f, q) → FollowsCode 129 p f q
 unfolding ack_at frame
 ack_takes p f q bytes e =
     let a = then_ok (number_at 4 p) (λ s. number_at 4 >>= λ r. done (Ack s r)) (f, q) e in
     let t = (number_laid 4).takes p a.0 a.1 bytes a.2 in
     let b = then_ok (number_at 4 a.1) (λ r. done (Ack a.0 r)) (f, q) a.3 in
-    let u = (number_laid 4).takes a.1 b.0 b.1 (IsBytes-follows p (number 4 a.0) a.1 bytes t.2) b.2 in
+    let u = (number_laid 4).takes a.1 b.0 b.1 (AreBytes-follows p (number 4 a.0) a.1 bytes t.2) b.2 in
     subst (λ (r : Frame × Part). FollowsCode 129 p r.0 r.1) (ok_is (Ack a.0 b.0, b.1) (f, q) b.3)
     ((t.1, u.1), (number 4 a.0 ++ number 4 b.0, refl, Follows-then p (number 4 a.0) a.1 (number 4 b.0) b.1 t.2 u.2))
 
@@ -62,7 +62,7 @@ ack_takes p f q bytes e =
 abbrev pub behind_code : ℕ → ℕ → Reader Frame
 behind_code place code = cond (eqb code 128) payload_at (cond (eqb code 129) ack_at (refused place BadValue))
 
-code_takes : (place code : ℕ) (p : Part) (f : Frame) (q : Part) → IsBytes p.bytes → behind_code place code p ≡ Ok (f, q) → FollowsCode code p f q
+code_takes : (place code : ℕ) (p : Part) (f : Frame) (q : Part) → AreBytes p.bytes → behind_code place code p ≡ Ok (f, q) → FollowsCode code p f q
 code_takes place code p f q bytes e =
     elim (eqb code 128) as (λ b. eqb code 128 ≡ b → cond b payload_at (cond (eqb code 129) ack_at (refused place BadValue)) p ≡ Ok (f, q) → FollowsCode code p f q) [
       | true ↦ λ is g. subst (λ (c : ℕ). FollowsCode c p f q) (sym (eqb-true code 128 is)) (payload_takes p f q bytes g)
@@ -73,12 +73,12 @@ code_takes place code p f q bytes e =
     ] refl e
 
 -- what is read is spelled so
-pub frame_takes : (p : Part) (f : Frame) (q : Part) → IsBytes p.bytes → frame_at p ≡ Ok (f, q) → IsFrame f × Follows p (frame f) q
+pub frame_takes : (p : Part) (f : Frame) (q : Part) → AreBytes p.bytes → frame_at p ≡ Ok (f, q) → IsFrame f × Follows p (frame f) q
 unfolding frame_at place_at
 frame_takes p f q bytes e =
     let a = then_ok (number_at 1 p) (behind_code p.place) (f, q) e in
     let t = (number_laid 1).takes p a.0 a.1 bytes a.2 in
-    let u = code_takes p.place a.0 a.1 f q (IsBytes-follows p (number 1 a.0) a.1 bytes t.2) a.3 in
+    let u = code_takes p.place a.0 a.1 f q (AreBytes-follows p (number 1 a.0) a.1 bytes t.2) a.3 in
     (u.0, subst (λ (text : List ℕ). Follows p text q) (sym u.1.1) (Follows-then p (number 1 a.0) a.1 u.1.0 q t.2 u.1.2))
 
 -- what is spelled so is read

@@ -3,9 +3,9 @@ use Rattle.std.proofs.Common.{◌≡◌, ℕ, zero, suc, ◌+◌, ◌-◌, ◌�
 use Rattle.std.proofs.lemmas.Bool.{eqb-true, eqb-false, le-leb, lt-leb, cases_lt}
 use Rattle.std.proofs.lemmas.List.{length-replicate, take_at, drop_at}
 use Rattle.byteorder.specs.Endian.{big_number}
-use Rattle.wire_core.specs.Spelling.{number, vector}
-use Rattle.wire_core.proofs.Bytes.{IsBytes, length-number, big_number-number}
-use Rattle.wire_core.proofs.Laws.{part}
+use Rattle.wire_core.specs.Spelling.{number, vector, AreBytes}
+use Rattle.wire_core.specs.Part.{part}
+use Rattle.wire_core.proofs.Bytes.{length-number, big_number-number}
 use Rattle.link_framing.specs.declared.frame.Frame.{Frame}
 use Rattle.link_framing.specs.declared.frame.Frame.TheVariants.{Payload, Ack}
 use Rattle.link_framing.specs.Framing.{most, frame, IsFrame}
@@ -13,7 +13,7 @@ use Rattle.link_framing.specs.Reading.{frame_at}
 use Rattle.link_framing.specs.Streams.{BeginsFrame, BeginsWith, IsBadType, length_in, least_message, least_whole, wanted, IsMissing}
 use Rattle.link_framing.proofs.Layouts.{behind_code}
 use Rattle.link_framing.proofs.Fronts.{length_there, payload_whole, ack_whole, frame_some}
-use Rattle.link_framing.proofs.Cases.{IsBytes-append, IsBytes-zeros, one_byte, frame_not_bad}
+use Rattle.link_framing.proofs.Cases.{AreBytes-append, AreBytes-zeros, one_byte, frame_not_bad}
 use Rattle.link_framing.proofs.Taken.{read_whole}
 
 -- ---- zeros behind bytes
@@ -89,27 +89,27 @@ some_needs more begun = go begun.first begun.rest begun.spelled where
 
 -- ---- zeros make a frame
 
-payload_made : (b : ℕ) (tail : List ℕ) (k : ℕ) → IsBytes (b ∷ tail) → b ≡ 128 → length_in (b ∷ tail) ≤ most → 8 + length_in (b ∷ tail) ≤ length (b ∷ tail) + k → BeginsFrame ((b ∷ tail) ++ replicate k 0)
+payload_made : (b : ℕ) (tail : List ℕ) (k : ℕ) → AreBytes (b ∷ tail) → b ≡ 128 → length_in (b ∷ tail) ≤ most → 8 + length_in (b ∷ tail) ≤ length (b ∷ tail) + k → BeginsFrame ((b ∷ tail) ++ replicate k 0)
 payload_made b tail k fits is within le =
     let zeros = replicate k 0 in
-    let bytes = IsBytes-append (b ∷ tail) zeros fits (IsBytes-zeros k) in
+    let bytes = AreBytes-append (b ∷ tail) zeros fits (AreBytes-zeros k) in
     let len : length_in (b ∷ (tail ++ zeros)) ≡ length_in (b ∷ tail) = length_in-zeros (b ∷ tail) k in
     let long : 7 + length_in (b ∷ (tail ++ zeros)) ≤ length (tail ++ zeros) = omega (arith, len, le, length-append tail zeros, length-replicate {A = ℕ} k 0) in
     let w = payload_whole b 1 (tail ++ zeros) (omega arith) (omega (arith, len, within)) long in
     let e : frame_at (part 0 (b ∷ (tail ++ zeros))) ≡ Ok w.0 = frame_some 0 b (tail ++ zeros) ∙ ap (λ (c : ℕ). behind_code 0 c (part 1 (tail ++ zeros))) is ∙ w.1 in
     read_whole 0 (b ∷ (tail ++ zeros)) (Ok w.0) bytes e refl
 
-ack_made : (b : ℕ) (tail : List ℕ) (k : ℕ) → IsBytes (b ∷ tail) → b ≡ 129 → 9 ≤ length (b ∷ tail) + k → BeginsFrame ((b ∷ tail) ++ replicate k 0)
+ack_made : (b : ℕ) (tail : List ℕ) (k : ℕ) → AreBytes (b ∷ tail) → b ≡ 129 → 9 ≤ length (b ∷ tail) + k → BeginsFrame ((b ∷ tail) ++ replicate k 0)
 ack_made b tail k fits is le =
     let zeros = replicate k 0 in
-    let bytes = IsBytes-append (b ∷ tail) zeros fits (IsBytes-zeros k) in
+    let bytes = AreBytes-append (b ∷ tail) zeros fits (AreBytes-zeros k) in
     let w = ack_whole 1 (tail ++ zeros) (omega (arith, le, length-append tail zeros, length-replicate {A = ℕ} k 0)) in
     let e : frame_at (part 0 (b ∷ (tail ++ zeros))) ≡ Ok w.0 = frame_some 0 b (tail ++ zeros) ∙ ap (λ (c : ℕ). behind_code 0 c (part 1 (tail ++ zeros))) is ∙ w.1 in
     read_whole 0 (b ∷ (tail ++ zeros)) (Ok w.0) bytes e refl
 
 -- ---- each case
 
-payload_missing : (b : ℕ) (tail : List ℕ) → IsBytes (b ∷ tail) → b ≡ 128 → IsMissing (b ∷ tail) (8 + least_message (b ∷ tail) - length (b ∷ tail))
+payload_missing : (b : ℕ) (tail : List ℕ) → AreBytes (b ∷ tail) → b ≡ 128 → IsMissing (b ∷ tail) (8 + least_message (b ∷ tail) - length (b ∷ tail))
 payload_missing b tail fits is =
     elim (cases_lt most (length_in (b ∷ tail))) [
       | inl large ↦
@@ -135,7 +135,7 @@ payload_missing b tail fits is =
           }))
     ]
 
-ack_missing : (b : ℕ) (tail : List ℕ) → IsBytes (b ∷ tail) → b ≡ 129 → IsMissing (b ∷ tail) (9 - length (b ∷ tail))
+ack_missing : (b : ℕ) (tail : List ℕ) → AreBytes (b ∷ tail) → b ≡ 129 → IsMissing (b ∷ tail) (9 - length (b ∷ tail))
 ack_missing b tail fits is =
     let k = 9 - length (b ∷ tail) in
     inl (record {
@@ -159,7 +159,7 @@ nothing_missing = inl (record {
   least = λ other begun. some_needs other begun;
 })
 
-pub missing : (bytes : List ℕ) → IsBytes bytes → IsMissing bytes (wanted bytes)
+pub missing : (bytes : List ℕ) → AreBytes bytes → IsMissing bytes (wanted bytes)
 unfolding least_whole
 missing [] fits = nothing_missing
 missing (b ∷ tail) fits =

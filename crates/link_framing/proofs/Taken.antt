@@ -3,9 +3,8 @@ use Rattle.std.proofs.Common.{◌≡◌, ℕ, ◌+◌, ◌-◌, ◌≤◌, ◌�
 use Rattle.std.specs.Result.{IsOk}
 use Rattle.std.proofs.lemmas.List.{drop_at}
 use Rattle.wire_core.specs.declared.bad.Bad.{Bad}
-use Rattle.wire_core.specs.Part.{Part}
-use Rattle.wire_core.proofs.Bytes.{IsBytes}
-use Rattle.wire_core.proofs.Laws.{part}
+use Rattle.wire_core.specs.Part.{Part, part}
+use Rattle.wire_core.specs.Spelling.{AreBytes}
 use Rattle.link_framing.specs.declared.frame.Frame.{Frame}
 use Rattle.link_framing.specs.declared.frame.FrameFault.{FrameFault}
 use Rattle.link_framing.specs.declared.frame.FrameFault.TheVariants as faults
@@ -19,7 +18,7 @@ use Rattle.link_framing.proofs.Cases.{Judged, judged, frame_not_bad, frame_not_l
 -- ---- what the reading says
 
 -- a frame that was read, and the number of its bytes
-pub read_frame : (place n : ℕ) (bytes : List ℕ) (f : Frame) (q : Part) → IsBytes bytes → frame_at (part place bytes) ≡ Ok (f, q) → n ≡ length q.bytes
+pub read_frame : (place n : ℕ) (bytes : List ℕ) (f : Frame) (q : Part) → AreBytes bytes → frame_at (part place bytes) ≡ Ok (f, q) → n ≡ length q.bytes
     → (n ≤ length bytes) × Finds (Ok (Some (f, length bytes - n))) place bytes
 read_frame place n bytes f q fits e len =
     let t = frame_takes (part place bytes) f q fits e in
@@ -29,14 +28,14 @@ read_frame place n bytes f q fits e len =
     (omega arith, (t.0, k, t.1.bytes ∙ ap (λ (b : List ℕ). frame f ++ b) (sym rest)))
 
 -- a frame that is there, where memory is missing
-pub read_whole : (place : ℕ) (bytes : List ℕ) (r : Result (Frame × Part) Bad) → IsBytes bytes → frame_at (part place bytes) ≡ r → IsOk r → BeginsFrame bytes
+pub read_whole : (place : ℕ) (bytes : List ℕ) (r : Result (Frame × Part) Bad) → AreBytes bytes → frame_at (part place bytes) ≡ r → IsOk r → BeginsFrame bytes
 read_whole place bytes (Ok x) fits e is =
     let t = frame_takes (part place bytes) x.0 x.1 fits e in
     record { first = x.0; rest = x.1.bytes; fits = t.0; spelled = t.1.bytes }
 read_whole place bytes (Err bad) fits e is = absurd cc
 
 -- a fault
-pub read_fault : (place : ℕ) (bytes : List ℕ) (bad : Bad) → IsBytes bytes → frame_at (part place bytes) ≡ Err bad → Says place bytes bad.place bad.reason
+pub read_fault : (place : ℕ) (bytes : List ℕ) (bad : Bad) → AreBytes bytes → frame_at (part place bytes) ≡ Err bad → Says place bytes bad.place bad.reason
 read_fault place bytes bad fits e = subst (Judged place bytes) e (judged place bytes fits)
 
 -- ---- it gives nothing else
