@@ -11,6 +11,7 @@ use Rattle.security_block.specs.declared.block.SecurityBlock.{SecurityBlock}
 unfoldable pub certificate : Certificate → List ℕ
 certificate c = number 1 c.code ++ vector 2 c.body
 
+-- the bytes of a list of certificates
 abbrev pub certificates : List Certificate → List ℕ
 certificates cs = flat_map certificate cs
 
@@ -18,6 +19,7 @@ certificates cs = flat_map certificate cs
 unfoldable pub block : SecurityBlock → List ℕ
 block b = vector 2 (certificates b.certificates) ++ signature b.signature
 
+-- A certificate's body has at most 65,535 bytes.
 abbrev pub IsSpelledCertificate : Certificate → Type 0
 IsSpelledCertificate c = length c.body < 2 ^ 16
 
@@ -37,12 +39,14 @@ pub record IsBlockInRange (b : SecurityBlock) : Type 0 where
   pub certificates : All IsCertificateInRange b.certificates
   pub signature : IsSignatureInRange b.signature
 
+-- a certificate
 unfoldable pub certificate_at : Reader Certificate
 certificate_at = do
   code ← number_at 1
   body ← vector_at 2 rest_at
   done (record { code = code; body = body })
 
+-- a security block
 unfoldable pub block_at : Reader SecurityBlock
 block_at = do
   cs ← vector_at 2 (list_at certificate_at)

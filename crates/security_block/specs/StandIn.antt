@@ -14,9 +14,11 @@ use Rattle.wire_core.specs.Reading.{Reader, ◌>>=◌, ◌>>◌, done, allowed, 
 use Rattle.wire_core.specs.Signature.{identity}
 use Rattle.security_block.specs.declared.about.About.{About}
 
+-- the text that begins what a tag is the hash of
 unfoldable pub authority_text : List ℕ
 authority_text = codes "RELOAD stand-in authority"
 
+-- the text that begins what a signature's value is the hash of
 unfoldable pub key_text : List ℕ
 key_text = codes "RELOAD stand-in key"
 
@@ -48,6 +50,7 @@ user_at = do
   allowed (nat_le 1 (length user) && nat_le (length user) 64) place BadValue
   done user
 
+-- what a certificate says, field by field
 unfoldable pub claim_at : Reader About
 claim_at = do
   exact_at 1 1
@@ -74,6 +77,7 @@ identity_by certificate = signers.CertHash 4 (sha256 certificate)
 unfoldable pub value_by : List ℕ → List ℕ → List ℕ
 value_by certificate bytes = sha256 (key_text ++ (certificate ++ (bytes ++ identity (identity_by certificate))))
 
+-- a certificate's signature over bytes
 unfoldable pub signature_by : List ℕ → List ℕ → Signature
 signature_by certificate bytes = record { hash = 4; algorithm = 224; identity = identity_by certificate; value = value_by certificate bytes }
 

@@ -51,16 +51,19 @@ hash_at = do
   hash ← vector_at 1 rest_at
   done (alg, hash)
 
+-- the hash of a certificate, behind its type
 unfoldable pub cert_hash_at : Reader SignerIdentity
 cert_hash_at = do
   parts ← vector_at 2 hash_at
   done (signers.CertHash parts.0 parts.1)
 
+-- the hash of a certificate and a Node-ID, behind its type
 unfoldable pub cert_hash_node_id_at : Reader SignerIdentity
 cert_hash_node_id_at = do
   parts ← vector_at 2 hash_at
   done (signers.CertHashNodeId parts.0 parts.1)
 
+-- nobody, behind its type: an empty part
 unfoldable pub no_identity_at : Reader SignerIdentity
 no_identity_at = vector_at 2 (done signers.None)
 
@@ -69,12 +72,14 @@ unfoldable pub identity_of : ℕ → ℕ → Reader SignerIdentity
 identity_of place code =
     if code == 1 then cert_hash_at else (if code == 2 then cert_hash_node_id_at else (if code == 3 then no_identity_at else refused place BadValue))
 
+-- an identity; any other first byte than 1, 2 or 3 is a bad value
 unfoldable pub identity_at : Reader SignerIdentity
 identity_at = do
   place ← place_at
   code ← number_at 1
   identity_of place code
 
+-- a signature
 unfoldable pub signature_at : Reader Signature
 signature_at = do
   hash ← number_at 1

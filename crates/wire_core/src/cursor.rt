@@ -277,5 +277,4 @@ impl<'a> Cursor<'a> {
 /// Does nothing, and tells contracts that these are bytes.
 fn are_bytes(bytes: &[u8])
     ensures { AreBytes bytes.now }
-{
-}
+{}
