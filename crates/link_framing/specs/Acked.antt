@@ -1,4 +1,4 @@
--- What an ack says of the payloads before the one that it acknowledges (RFC 6940, 6.6.1).
+-- What an ack says of the payloads before the one that it acknowledges (RFC 6940, 6.6.2).
 use Rattle.std.specs.Prelude.{◌≡◌, ℕ, ◌-◌, ◌<◌, ◌≤◌, ◌^◌, Bool, ◌&&◌, nat_le, if◌then◌else◌}
 use Rattle.std.specs.Int.{bit_at}
 use Rattle.std.specs.Ordering.{nat_cmp}

@@ -8,7 +8,7 @@ use Rattle.link_framing.specs.declared.frame.Frame.TheVariants.{Payload, Ack}
 abbrev pub most : ℕ
 most = 262144
 
--- A frame's bytes (RFC 6940, 6.6.1): 128, a sequence and a message behind its length, or 129, a sequence and the mask of those heard before it.
+-- A frame's bytes (RFC 6940, 6.6.2): 128, a sequence and a message behind its length, or 129, a sequence and the mask of those heard before it.
 unfoldable pub frame : Frame → List ℕ
 frame (Payload sequence message) = number 1 128 ++ (number 4 sequence ++ vector 3 message)
 frame (Ack sequence received) = number 1 129 ++ (number 4 sequence ++ number 4 received)

@@ -7,7 +7,7 @@ use reload_base::{Bytes, NoMemory};
 use std::alloc::Global;
 use wire_core::{put_bytes, put_u8, put_u32};
 
-/// What one node sends to another over their link (RFC 6940, section 6.6.1).
+/// What one node sends to another over their link (RFC 6940, section 6.6.2).
 #[derive(Debug, Drop)]
 pub enum Frame {
     /// A message of at most 262,144 bytes.

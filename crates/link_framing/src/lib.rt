@@ -1,4 +1,4 @@
-//! Frames on a link, and their acks (RFC 6940, section 6.6.1).
+//! Frames on a link, and their acks (RFC 6940, section 6.6.2).
 #![tactic(auto)]
 
 mod acks;
