@@ -1,5 +1,5 @@
 -- What a source and a sink do to the bytes that they hold, where they tell, and to their count of faults.
-use Rattle.std.specs.Prelude.{◌≡◌, ℕ, ◌+◌, ◌-◌, ◌^◌, ◌<◌, ◌≤◌, min, List, length, take, Option}
+use Rattle.std.specs.Prelude.{◌≡◌, ℕ, ◌+◌, ◌-◌, ◌^◌, ◌<◌, ◌≤◌, min, List, [], ◌++◌, length, take, Option, Some, None}
 use Rattle.std.specs.Io.KnownBytes.{Keeps, Appends, Consumes, IsAtEnd}
 use Rattle.reload_base.specs.declared.source.Took.{Took}
 use Rattle.reload_base.specs.declared.source.Took.TheVariants as took
