@@ -1,5 +1,5 @@
 -- What a status says of what was read and written.
-use Rattle.std.proofs.Common.{◌≡◌, ℕ, ◌<◌, ◌≤◌, List, [], ◌∷◌, length, get_or, Option, String, Bool, IsTrue, refl, ap, sym, ◌∙◌, inr, arith}
+use Rattle.std.proofs.Common.{◌≡◌, ℕ, ◌<◌, ◌≤◌, List, [], ◌∷◌, length, get_or, Option, String, Bool, IsTrue, Result, Ok, refl, ap, sym, ◌∙◌, inr, arith}
 use Rattle.std.specs.Global.{Global}
 use Rattle.std.specs.Str.{bytes_eq}
 use Rattle.std.proofs.lemmas.Slice.Eq.{bytes_eq-Decides}
@@ -9,6 +9,7 @@ use Rattle.scenario_text.specs.declared.scenario.Scenario.{Scenario}
 use Rattle.scenario_text.specs.declared.fixed.Fixed.TheVariants as fixed
 use Rattle.scenario_text.specs.Texts.{text_of}
 use Rattle.scenario_text.specs.Scenarios.{IsTextOf, IsFirstBad}
+use Rattle.scenario_text.proofs.TextLaws.{reading-again}
 use Rattle.scenario_text.specs.Transcript.{bad_line}
 use Rattle.overlay_command.specs.declared.status.Status.{Status}
 use Rattle.overlay_command.specs.declared.status.Status.TheVariants.{Done, Usage, ReadFault, WriteFault, NoMemory, BadLine, TooLong}
@@ -30,9 +31,15 @@ run_word b seen bytes fixed test same =
       λ e. let is : bytes ≡ fixed = cc in test ∙ decides.1 (same ∙ is),
     )
 
+-- a text is of one scenario at most
+one_scenario : (text : List ℕ) (s other : Scenario) → length text ≤ most_bytes → IsTextOf text s → IsTextOf text other → other ≡ s
+one_scenario text s other few is also =
+    let same : ◌≡◌ {A = Result Scenario ℕ} (Ok other) (Ok s) = sym (reading-again text (omega arith) other also) ∙ reading-again text (omega arith) s is in
+    cc
+
 -- the transcript of a scenario is due for its text
 pub run_due : (text : List ℕ) (s : Scenario) → length text ≤ most_bytes → IsTextOf text s → IsDue Done text (transcript s)
-run_due text s few is = (few, s, record { spells = is; written = refl; legal = run_is_legal s; once = run_is_once s; gives = run_gives s })
+run_due text s few is = (few, s, record { spells = is; only = λ other also. one_scenario text s other few is also; written = refl; legal = run_is_legal s; once = run_is_once s; gives = run_gives s })
 
 -- a bad line was told
 pub bad_told : (text : List ℕ) (n : ℕ) (old new : Option (List ℕ)) (status : Status) → length text ≤ most_bytes → IsFirstBad text n → IsToldBy BadLine old new (ended (bad_line n)) status → EndsText text old new status

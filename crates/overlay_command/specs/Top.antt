@@ -31,9 +31,10 @@ abbrev pub GivesLastPuts : Config → List Decision → Type 0
 GivesLastPuts config ds = (before after : List Decision) → before ++ after ≡ ds → (now resource kind : ℕ) → AllByRecursion (λ d. d.time ≤ now) before
     → given_for now (held_in (record_in (map_of config before) resource).kinds kind []) ≡ given_for now (last_put config before resource kind)
 
--- the run of a scenario: the transcript is due, and the decisions are those of one map that each Store changes at most once
+-- the run of the one scenario that a text is of: its transcript is due, and the decisions are those of one map that each Store changes at most once
 pub record IsRunOf (text due : List ℕ) (s : Scenario) : Type 0 where
   pub spells : IsTextOf text s
+  pub only : (other : Scenario) → IsTextOf text other → other ≡ s
   pub written : due ≡ transcript s
   pub legal : IsLegal s.config (decisions s)
   pub once : IsOnce s.config (decisions s)
