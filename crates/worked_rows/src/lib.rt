@@ -12,6 +12,4 @@ mod plain;
 #[cfg(test)]
 mod refusals;
 #[cfg(test)]
-mod resources;
-#[cfg(test)]
 mod rows;
