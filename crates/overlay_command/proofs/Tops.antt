@@ -16,6 +16,7 @@ use Rattle.overlay_command.specs.declared.status.Status.TheVariants.{Done, Usage
 use Rattle.overlay_command.specs.Desks.{transcript}
 use Rattle.overlay_command.specs.Top.{most_bytes, IsRun, Ends, IsDue, EndsText, IsToldBy}
 use Rattle.overlay_command.proofs.Runs.{run_is_legal, run_is_once, run_gives}
+use Rattle.overlay_command.proofs.Times.{run_in_time, run_gives_then}
 
 -- one element is the whole list
 pub only_one : {X : Type 0} (xs : List X) (x : X) → length xs ≡ 1 → x ≡ get_or xs 0 x → xs ≡ x ∷ []
@@ -39,7 +40,7 @@ one_scenario text s other few is also =
 
 -- the transcript of a scenario is due for its text
 pub run_due : (text : List ℕ) (s : Scenario) → length text ≤ most_bytes → IsTextOf text s → IsDue Done text (transcript s)
-run_due text s few is = (few, s, record { spells = is; only = λ other also. one_scenario text s other few is also; written = refl; legal = run_is_legal s; once = run_is_once s; gives = run_gives s })
+run_due text s few is = (few, s, record { spells = is; only = λ other also. one_scenario text s other few is also; written = refl; legal = run_is_legal s; once = run_is_once s; in_time = run_in_time s; gives = run_gives s; gives_then = run_gives_then s })
 
 -- a bad line was told
 pub bad_told : (text : List ℕ) (n : ℕ) (old new : Option (List ℕ)) (status : Status) → length text ≤ most_bytes → IsFirstBad text n → IsToldBy BadLine old new (ended (bad_line n)) status → EndsText text old new status

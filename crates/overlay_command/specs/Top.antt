@@ -31,6 +31,16 @@ abbrev pub GivesLastPuts : Config → List Decision → Type 0
 GivesLastPuts config ds = (before after : List Decision) → before ++ after ≡ ds → (now resource kind : ℕ) → AllByRecursion (λ d. d.time ≤ now) before
     → given_for now (held_in (record_in (map_of config before) resource).kinds kind []) ≡ given_for now (last_put config before resource kind)
 
+-- the clocks of decisions never fall
+unfoldable pub InTime : List Decision → Type 0
+InTime [] = Unit {0}
+InTime (d ∷ ds) = AllByRecursion (λ e. d.time ≤ e.time) ds × InTime ds
+
+-- and so it is at the clock of each decision
+abbrev pub GivesAtDecisions : Config → List Decision → Type 0
+GivesAtDecisions config ds = (before after : List Decision) (d : Decision) → before ++ d ∷ after ≡ ds → (resource kind : ℕ)
+    → given_for d.time (held_in (record_in (map_of config before) resource).kinds kind []) ≡ given_for d.time (last_put config before resource kind)
+
 -- the run of the one scenario that a text is of: its transcript is due, and the decisions are those of one map that each Store changes at most once
 pub record IsRunOf (text due : List ℕ) (s : Scenario) : Type 0 where
   pub spells : IsTextOf text s
@@ -38,7 +48,9 @@ pub record IsRunOf (text due : List ℕ) (s : Scenario) : Type 0 where
   pub written : due ≡ transcript s
   pub legal : IsLegal s.config (decisions s)
   pub once : IsOnce s.config (decisions s)
+  pub in_time : InTime (decisions s)
   pub gives : GivesLastPuts s.config (decisions s)
+  pub gives_then : GivesAtDecisions s.config (decisions s)
 
 -- what is due whole for a text that was read, under the status that answers it
 abbrev pub IsDue : Status → List ℕ → List ℕ → Type 0
