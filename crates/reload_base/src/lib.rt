@@ -1,9 +1,11 @@
-//! Lists that say when memory is missing, and the outside as traits.
+//! Lists that say when memory is missing, and the outside as traits: sources, sinks and airs.
 #![tactic(auto)]
 
+mod air;
 mod calls;
 mod copy;
 mod list;
+mod memory_air;
 mod memory_sink;
 mod memory_source;
 mod no_memory;
@@ -17,9 +19,11 @@ mod std_source;
 mod tests;
 mod writing;
 
+pub use air::{Air, AirFrame, Got, Sent};
 pub use calls::Calls;
 pub use copy::TryCopy;
 pub use list::{Bytes, List};
+pub use memory_air::MemoryAir;
 pub use memory_sink::MemorySink;
 pub use memory_source::MemorySource;
 pub use no_memory::NoMemory;

@@ -1,6 +1,6 @@
 use crate::{
-    Bytes, List, MemorySink, MemorySource, ReadError, Room, Sink, Source, StdSink, StdSource, Took,
-    TryCopy, WriteError, Wrote, read_all, write_all,
+    Air, Bytes, Got, List, MemoryAir, MemorySink, MemorySource, ReadError, Room, Sent, Sink,
+    Source, StdSink, StdSource, Took, TryCopy, WriteError, Wrote, read_all, write_all,
 };
 use std::alloc::{AllocError, Global};
 use std::io;
@@ -156,5 +156,39 @@ fn a_sink_in_memory(rt: HostRuntime) -> Result<(), Fail> {
     assert_eq!(rt; sink.as_slice(), b"rel".as_slice());
     assert_eq!(rt; write_all(&mut sink, b"oad"), Ok(()));
     assert_eq!(rt; sink.as_slice(), b"reload".as_slice());
+    Ok(())
+}
+
+#[test]
+fn an_air_in_memory(rt: HostRuntime) -> Result<(), Fail> {
+    let mut air = MemoryAir::new(rt.alloc(), &[2])?;
+    let sends: [(u32, u32, &[u8], Sent, u64, u64); 4] = [
+        (1, 2, b"reload", Sent::Ok, 1, 6),
+        (2, 1, b"lost", Sent::Failed, 1, 6),
+        (2, 1, b"ack", Sent::Ok, 2, 9),
+        (1, 3, b"ack", Sent::Ok, 3, 12),
+    ];
+    for (from, to, bytes, want, frames, size) in sends {
+        assert!(rt; !bytes.is_empty() && bytes.len() < 9 && air.size() < 99);
+        assert_eq!(rt; air.send(rt.alloc(), from, to, bytes), want);
+        assert_eq!(rt; (air.frames(), air.size()), (frames, size));
+    }
+    let frames: [(u64, u32, u32, &[u8]); 4] = [
+        (3, 1, 3, b"ack"),
+        (1, 1, 2, b"reload"),
+        (2, 2, 1, b"ack"),
+        (1, 1, 2, b"reload"),
+    ];
+    for (k, from, to, bytes) in frames {
+        assert!(rt; 0 < k && k <= air.frames());
+        let Got::Frame(frame) = air.frame(rt.alloc(), k) else {
+            return Err(Fail::from(AllocError));
+        };
+        assert_eq!(rt;
+            (frame.from, frame.to, frame.bytes.as_slice()),
+            (from, to, bytes)
+        );
+    }
+    assert_eq!(rt; (air.frames(), air.size()), (3, 12));
     Ok(())
 }
