@@ -1,6 +1,8 @@
 //! Reading the header of a whole message.
 
-ghost use Rattle.std.specs.Prelude.{◌≡◌, ◌++◌, List, ℕ, [], length, IfOk, Ok};
+ghost use Rattle.std.specs.Prelude.{◌≡◌, ◌≤◌, ◌++◌, List, ℕ, [], length, IfOk, Ok, Err};
+ghost use Rattle.wire_core.specs.declared.bad.Bad.{Bad};
+ghost use Rattle.wire_core.specs.declared.bad.DecodeFault.TheVariants as faults;
 ghost use Rattle.wire_core.specs.Layout.{Anything, Always, IsLayout};
 ghost use Rattle.wire_core.specs.Reading.{Gives};
 ghost use Rattle.forwarding_header.specs.Destinations.{destination, destination_at, IsSpelledDestination, IsDestinationInRange};
@@ -29,6 +31,8 @@ pub fn decode_header(alloc: Global, message: &[u8]) -> Result<(Header, usize), D
     ensures only { (h : Header) → IsMessage h message.now → Gives result (Ok (h, length (header h))) }
     // Which fault it is.
     ensures exact { Gives result (message_at message.now) }
+    // A fault lies in the message, or at its end.
+    ensures within { (bad : Bad) → result ≡ Err (faults.Bad bad) → bad.place ≤ length message.now }
 {
     decode(alloc, message)
 }

@@ -3,5 +3,6 @@ pub mod Decoders
 pub mod Entries
 pub mod Laws
 pub mod Lists
+pub mod Places
 pub mod SignatureLaw
 pub mod Words
