@@ -1,10 +1,11 @@
 -- The lines of a transcript.
-use Rattle.std.specs.Prelude.{ℕ, ◌/◌, ◌%◌, ◌^◌, ◌==◌, List, [], ◌∷◌, ◌++◌, if◌then◌else◌}
+use Rattle.std.specs.Prelude.{ℕ, ◌==◌, List, [], ◌∷◌, ◌++◌, if◌then◌else◌}
 use Rattle.std.specs.List.{flat_map}
 use Rattle.std.specs.Fmt.{decimal}
 use Rattle.hex.specs.Hex.{encode_lower}
 use Rattle.text_words.specs.Id.{id_text}
 use Rattle.text_words.specs.Lines.{ended}
+use Rattle.text_words.specs.Transaction.{transaction_text}
 use Rattle.data_models.specs.declared.stored_data.SlotKey.{SlotKey}
 use Rattle.data_models.specs.declared.stored_data.SlotKey.TheVariants.{Whole}
 use Rattle.data_models.specs.declared.stored_data.StoredData.{StoredData}
@@ -27,10 +28,6 @@ use Rattle.scenario_text.specs.declared.scenario.Scenario.{Scenario}
 use Rattle.scenario_text.specs.Scenarios.{declaration_lines}
 use Rattle.scenario_text.specs.declared.fixed.Fixed.TheVariants as fixed
 use Rattle.scenario_text.specs.Texts.{text_of}
-
--- a transaction id: its high and its low 32 bits
-unfoldable pub id_words : ℕ → List ℕ
-id_words id = decimal (id / 2 ^ 32) ++ 46 ∷ [] ++ decimal (id % 2 ^ 32)
 
 unfoldable pub key_word : SlotKey → List ℕ
 key_word Whole = 45 ∷ []
@@ -84,14 +81,14 @@ answer_words (Found verdict) = verdict_words verdict
 
 -- a Store or a Fetch by a node of this number, with this transaction id
 unfoldable pub store_words : ℕ → ℕ → StoreAsked → List ℕ
-store_words origin id q = text_of fixed.Store ++ decimal origin ++ 32 ∷ [] ++ id_words id ++ flat_map (group_words origin) q.kinds
+store_words origin id q = text_of fixed.Store ++ decimal origin ++ 32 ∷ [] ++ transaction_text id ++ flat_map (group_words origin) q.kinds
 
 -- KIND/GEN behind a space
 unfoldable pub specifier_words : Specifier → List ℕ
 specifier_words s = 32 ∷ [] ++ decimal s.kind ++ 47 ∷ [] ++ decimal s.generation
 
 unfoldable pub fetch_words : ℕ → ℕ → FetchAsked → List ℕ
-fetch_words origin id q = text_of fixed.Fetch ++ decimal origin ++ 32 ∷ [] ++ id_words id ++ text_of fixed.Max ++ decimal q.max ++ flat_map specifier_words q.specifiers
+fetch_words origin id q = text_of fixed.Fetch ++ decimal origin ++ 32 ∷ [] ++ transaction_text id ++ text_of fixed.Max ++ decimal q.max ++ flat_map specifier_words q.specifiers
 
 abbrev pub asked_words : ℕ → ℕ → Asked → List ℕ
 asked_words origin id (Store q) = store_words origin id q
@@ -107,7 +104,7 @@ decide_line origin d = place_words d.peer d.time d.resource ++ asked_words origi
 
 -- answer ID ANSWER
 unfoldable pub answer_line : ℕ → Answer → List ℕ
-answer_line id answer = text_of fixed.Answer ++ id_words id ++ answer_words answer
+answer_line id answer = text_of fixed.Answer ++ transaction_text id ++ answer_words answer
 
 -- the event at a line names a request that wasn't issued
 unfoldable pub refused_line : ℕ → List ℕ

@@ -5,3 +5,4 @@ pub mod Lines
 pub mod Name
 pub mod Separator
 pub mod Steps
+pub mod Transaction

@@ -3,7 +3,7 @@
 ghost use Rattle.std.specs.Prelude.{◌≡◌, ℕ, ◌++◌, List, Some, IfSome, IfOk, OnOk, OnErr, length, take};
 ghost use Rattle.std.specs.List.{list_all};
 ghost use Rattle.hex.specs.Hex.{encode_lower};
-ghost use Rattle.text_words.specs.Hex.{AllBytes, hex_of, is_lower_digit};
+ghost use Rattle.text_words.specs.Hex.{AllBytes, hex_of, is_lower_digit, number_in_hex};
 
 use hex::FromHexError;
 use reload_base::{Bytes, NoMemory};
@@ -66,4 +66,13 @@ fn put_digits(out: &mut Bytes, bytes: &[u8]) -> Result<(), NoMemory>
         out.extend(&digits)?;
     }
     Ok(())
+}
+
+/// Appends a number as a word of 8 lower-case hex digits. After `NoMemory` the bytes are as before.
+#[tactic(auto, unfolding(crate::specs::Hex::number_in_hex))]
+pub fn put_number_in_hex(out: &mut Bytes, n: u32) -> Result<(), NoMemory>
+    ensures ok { OnOk result (out.new ≡ out.old ++ number_in_hex n) }
+    ensures err { OnErr result (out.new ≡ out.old) }
+{
+    put_hex(out, &n.to_be_bytes())
 }

@@ -3,7 +3,7 @@
 ghost use Rattle.std.specs.Prelude.{◌≡◌, ◌++◌, OnOk};
 ghost use Rattle.std.specs.List.{flat_map};
 ghost use Rattle.text_words.specs.Lines.{ended};
-ghost use Rattle.scenario_text.specs.Transcript.{id_words, counter_word, code_words, found_word, found_kind, decided_words, verdict_words, answer_words, answer_line};
+ghost use Rattle.scenario_text.specs.Transcript.{counter_word, code_words, found_word, found_kind, decided_words, verdict_words, answer_words, answer_line};
 ghost use Rattle.scenario_text.specs.Answers.{answer_of};
 
 use crate::fixed::Fixed;
@@ -11,17 +11,7 @@ use crate::transcript::request::put_stored;
 use data_models::{KindValues, StoreKind, StoredData};
 use reload_base::{Bytes, NoMemory};
 use storage_model::{FetchVerdict, StoreVerdict};
-use text_words::put_decimal;
-
-/// Appends a transaction id as its high and its low 32 bits, `H.L`.
-#[tactic(auto, unfolding(crate::specs::Transcript::id_words))]
-pub(crate) fn put_id_words(out: &mut Bytes, id: u64) -> Result<(), NoMemory>
-    ensures { OnOk result (out.new ≡ out.old ++ id_words id) }
-{
-    put_decimal(out, id / 4_294_967_296)?;
-    out.extend(b".")?;
-    put_decimal(out, id % 4_294_967_296)
-}
+use text_words::{put_decimal, put_transaction};
 
 // Appends a Kind-ID and its generation counter behind a space.
 #[tactic(auto, unfolding(crate::specs::Transcript::counter_word))]
@@ -143,7 +133,7 @@ pub fn put_answer_line(out: &mut Bytes, id: u64, answer: &Told) -> Result<(), No
     ensures { OnOk result (out.new ≡ out.old ++ ended (answer_line id (answer_of answer.now))) }
 {
     out.extend(Fixed::Answer.text())?;
-    put_id_words(out, id)?;
+    put_transaction(out, id)?;
     put_answer(out, answer)?;
     out.extend(b"\n")
 }

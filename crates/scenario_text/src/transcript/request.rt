@@ -8,12 +8,12 @@ ghost use Rattle.scenario_text.specs.Transcript.{key_word, data_word, stored_wor
 ghost use Rattle.scenario_text.specs.Answers.{answer_of};
 
 use crate::fixed::Fixed;
-use crate::transcript::answer::{Told, put_answer, put_id_words};
+use crate::transcript::answer::{Told, put_answer};
 use data_models::{SlotKey, Specifier, StoredData};
 use reload_base::{Bytes, NoMemory};
 use reload_ids::ResourceId;
 use storage_model::{Asked, AskedKind, FetchAsked, StoreAsked, Value};
-use text_words::{put_decimal, put_hex, put_id};
+use text_words::{put_decimal, put_hex, put_id, put_transaction};
 
 #[tactic(auto, unfolding(crate::specs::Transcript::key_word))]
 fn put_key(out: &mut Bytes, key: &SlotKey) -> Result<(), NoMemory>
@@ -103,7 +103,7 @@ fn put_store(out: &mut Bytes, origin: u32, id: u64, q: &StoreAsked) -> Result<()
     out.extend(Fixed::Store.text())?;
     put_decimal(out, u64::from(origin))?;
     out.extend(b" ")?;
-    put_id_words(out, id)?;
+    put_transaction(out, id)?;
     put_groups(out, origin, q.kinds.as_slice())
 }
 
@@ -134,7 +134,7 @@ fn put_fetch(out: &mut Bytes, origin: u32, id: u64, q: &FetchAsked) -> Result<()
     out.extend(Fixed::Fetch.text())?;
     put_decimal(out, u64::from(origin))?;
     out.extend(b" ")?;
-    put_id_words(out, id)?;
+    put_transaction(out, id)?;
     out.extend(Fixed::Max.text())?;
     put_decimal(out, u64::from(q.max))?;
     put_specifiers(out, q.specifiers.as_slice())
