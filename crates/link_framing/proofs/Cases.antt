@@ -86,7 +86,7 @@ ack_front tail fits lt =
     }
 
 -- nothing is less than a frame
-empty_front : IsFront []
+pub empty_front : IsFront []
 unfolding frame
 empty_front = record {
   whole = Ack 0 0;
