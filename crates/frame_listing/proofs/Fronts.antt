@@ -1,0 +1,21 @@
+-- What is added of the frame in front.
+use Rattle.std.proofs.Common.{◌≡◌, ℕ, ◌+◌, ◌<◌, inl, inr, List, [], ◌++◌, length, drop, Err, refl, sym, ap, append-nil, length-append, arith}
+use Rattle.wire_core.specs.declared.bad.DecodeFault.{DecodeFault}
+use Rattle.wire_core.specs.declared.bad.DecodeFault.TheVariants as faults
+use Rattle.link_framing.specs.declared.frame.Frame.{Frame}
+use Rattle.link_framing.specs.Framing.{frame, IsFrame}
+use Rattle.frame_listing.specs.Fronts.{IsNext, AddsFrame, AddsFront}
+
+-- there is none
+pub no_front : (fault : DecodeFault) (place : ℕ) (rest out : List ℕ) → IsNext (Err fault) place rest → AddsFront (Err fault) place rest out out
+no_front (faults.Bad fault) place rest out is = ([], inr (is, refl), sym (append-nil out))
+no_front faults.NoMemory place rest out is = tt
+
+-- its message has a fault
+pub bad_front : (fault : DecodeFault) (place : ℕ) (f : Frame) (rest later old new : List ℕ) → IsFrame f → rest ≡ frame f ++ later → AddsFrame (Err fault) place f old new → AddsFront (Err fault) place rest old new
+bad_front (faults.Bad fault) place f rest later old new fits front (own, is, added) = (own, inl (record { first = f; later = later; fits = fits; spelled = front; is = is }), added)
+bad_front faults.NoMemory place f rest later old new fits front is = tt
+
+-- it fits before the end
+pub front_within : (f : Frame) (place n limit : ℕ) (rest : List ℕ) → place + length rest < limit → rest ≡ frame f ++ drop n rest → place + length (frame f) < limit
+front_within f place n limit rest small front = omega (arith, ap length front, length-append (frame f) (drop n rest))

@@ -1,0 +1,148 @@
+-- A stream has one listing.
+use Rattle.std.proofs.Common.{◌≡◌, ℕ, ◌+◌, inl, inr, List, [], ◌∷◌, ◌++◌, length, Option, None, Some, Err, refl, sym, ap, subst, ◌∙◌, append_assoc, append-nil}
+use Rattle.std.specs.List.{flat_map, AllByRecursion}
+use Rattle.text_words.specs.Lines.{ended}
+use Rattle.wire_core.specs.declared.bad.Bad.{Bad}
+use Rattle.forwarding_header.specs.declared.header.Header.{Header}
+use Rattle.forwarding_header.specs.Header.{IsMessage, message_at}
+use Rattle.forwarding_header.proofs.Messages.{message_again, one_message}
+use Rattle.link_framing.specs.declared.frame.Frame.{Frame}
+use Rattle.link_framing.specs.declared.frame.Frame.TheVariants.{Payload, Ack}
+use Rattle.link_framing.specs.Framing.{frame, IsFrame}
+use Rattle.link_framing.specs.Streams.{IsPartial, IsBadType, IsTooLarge}
+use Rattle.link_framing.proofs.Layouts.{frame_once}
+use Rattle.link_framing.proofs.Cases.{empty_front, frame_not_bad, frame_not_large, frame_not_partial, partial_not_bad, partial_not_large, bad_not_large}
+use Rattle.frame_listing.specs.Lines.{payload_line, message_line, fault_line}
+use Rattle.frame_listing.specs.Listing.{HoldsMessage, IsWhole, IsListedAs, AreListedAs, at, IsMessageFault, IsBadFrame, IsNoFrame, IsFault, IsEnding, IsListing}
+
+abbrev IsWholeFrame : Frame → Type 0
+IsWholeFrame f = IsFrame f × HoldsMessage f
+
+-- no whole frame of a whole message stands in front
+abbrev Stops : List ℕ → Type 0
+Stops rest = (f : Frame) (more : List ℕ) → IsWholeFrame f → rest ≡ frame f ++ more → ⊥
+
+-- a message that is whole has no fault
+whole_message : (h : Header) (m : List ℕ) (inner : Bad) → IsMessage h m → message_at m ≡ Err inner → ⊥
+whole_message h m inner is e = absurd (let same = sym (message_again m h is) ∙ e in cc)
+
+held_whole : (place : ℕ) (f : Frame) (text : List ℕ) (fault : Bad) → HoldsMessage f → IsMessageFault place f text fault → ⊥
+held_whole place (Payload s m) text fault holds is = whole_message holds.0 m is.0 holds.1 is.1
+held_whole place (Ack s r) text fault holds is = is
+
+no_frame_stops : (place : ℕ) (rest : List ℕ) (fault : Bad) → IsNoFrame place rest fault → (f : Frame) (more : List ℕ) → IsFrame f → rest ≡ frame f ++ more → ⊥
+no_frame_stops place rest fault (inl is) f more fits e = frame_not_bad f more rest fits e is.0
+no_frame_stops place rest fault (inr (inl is)) f more fits e = frame_not_large f more rest fits e is.0
+no_frame_stops place rest fault (inr (inr is)) f more fits e = frame_not_partial f more rest fits e is.0
+
+fault_stops : (place : ℕ) (rest text : List ℕ) (fault : Bad) → IsFault place rest text fault → Stops rest
+fault_stops place rest text fault (inl is) f more whole e =
+    let same = (frame_once f is.first more is.later whole.0 is.fits (sym e ∙ is.spelled)).0 in
+    held_whole place is.first text fault (subst HoldsMessage same whole.1) is.is
+fault_stops place rest text fault (inr is) f more whole e = no_frame_stops place rest fault is.0 f more whole.0 e
+
+nothing_is_partial : IsPartial []
+nothing_is_partial = inl empty_front
+
+nothing_stops : (rest : List ℕ) → rest ≡ [] → Stops rest
+nothing_stops rest none f more whole e = frame_not_partial f more [] whole.0 (sym none ∙ e) nothing_is_partial
+
+ending_stops : (frames : List Frame) (rest text : List ℕ) (fault : Option Bad) → IsEnding frames rest text fault → Stops rest
+ending_stops frames rest text None is = nothing_stops rest is.0
+ending_stops frames rest text (Some fault) is = fault_stops (length (flat_map frame frames)) rest is.0 fault is.1
+
+-- the frames before what stops
+same_frames : (fs gs : List Frame) (rest last : List ℕ) → AllByRecursion IsWholeFrame fs → AllByRecursion IsWholeFrame gs → Stops rest → Stops last
+    → flat_map frame fs ++ rest ≡ flat_map frame gs ++ last → (fs ≡ gs) × (rest ≡ last)
+same_frames [] [] rest last each also stop end e = (refl, e)
+same_frames [] (g ∷ gs) rest last each also stop end e = absurd (stop g (flat_map frame gs ++ last) also.0 (e ∙ append_assoc (frame g) (flat_map frame gs) last))
+same_frames (f ∷ fs) [] rest last each also stop end e = absurd (end f (flat_map frame fs ++ rest) each.0 (sym e ∙ append_assoc (frame f) (flat_map frame fs) rest))
+same_frames (f ∷ fs) (g ∷ gs) rest last each also stop end e =
+    let same = frame_once f g (flat_map frame fs ++ rest) (flat_map frame gs ++ last) each.0.0 also.0.0
+    (sym (append_assoc (frame f) (flat_map frame fs) rest) ∙ e ∙ append_assoc (frame g) (flat_map frame gs) last) in
+    let others = same_frames fs gs rest last each.1 also.1 stop end same.1 in
+    (ap (λ (x : Frame). x ∷ fs) same.0 ∙ ap (λ (xs : List Frame). g ∷ xs) others.0, others.1)
+
+frame_lines_hold : (place : ℕ) (f : Frame) (own : List ℕ) → IsListedAs place f own → HoldsMessage f
+frame_lines_hold place (Payload s m) own is = (is.0, is.1)
+frame_lines_hold place (Ack s r) own is = tt
+
+lines_whole : (place : ℕ) (fs : List Frame) (text : List ℕ) → AreListedAs place fs text → AllByRecursion IsWholeFrame fs
+lines_whole place [] text is = tt
+lines_whole place (f ∷ fs) text (own, later, fits, first, lines, whole) = ((fits, frame_lines_hold place f own first), lines_whole (place + length (frame f)) fs later lines)
+
+same_frame_lines : (place : ℕ) (f : Frame) (one other : List ℕ) → IsListedAs place f one → IsListedAs place f other → one ≡ other
+same_frame_lines place (Payload s m) one other (g, is, e) (h, also, k) =
+    let same = (one_message g h m m [] is also (append-nil m)).1 in
+    e ∙ ap (λ (x : Header). ended (payload_line place s (length m)) ++ ended (message_line x)) same ∙ sym k
+same_frame_lines place (Ack s r) one other e k = e ∙ sym k
+
+same_lines : (place : ℕ) (fs : List Frame) (one other : List ℕ) → AreListedAs place fs one → AreListedAs place fs other → one ≡ other
+same_lines place [] one other e k = e ∙ sym k
+same_lines place (f ∷ fs) one other (a, b, fits, first, lines, whole) (x, y, _, also, others, all) =
+    whole ∙ ap (λ (t : List ℕ). t ++ b) (same_frame_lines place f a x first also) ∙ ap (λ (t : List ℕ). x ++ t) (same_lines (place + length (frame f)) fs b y lines others) ∙ sym all
+
+same_no_frame : (place : ℕ) (rest : List ℕ) (a b : Bad) → IsNoFrame place rest a → IsNoFrame place rest b → a ≡ b
+same_no_frame place rest a b (inl x) (inl y) = x.1 ∙ sym y.1
+same_no_frame place rest a b (inl x) (inr (inl y)) = absurd (bad_not_large rest x.0 y.0)
+same_no_frame place rest a b (inl x) (inr (inr y)) = absurd (partial_not_bad rest y.0 x.0)
+same_no_frame place rest a b (inr (inl x)) (inl y) = absurd (bad_not_large rest y.0 x.0)
+same_no_frame place rest a b (inr (inl x)) (inr (inl y)) = x.1 ∙ sym y.1
+same_no_frame place rest a b (inr (inl x)) (inr (inr y)) = absurd (partial_not_large rest y.0 x.0)
+same_no_frame place rest a b (inr (inr x)) (inl y) = absurd (partial_not_bad rest x.0 y.0)
+same_no_frame place rest a b (inr (inr x)) (inr (inl y)) = absurd (partial_not_large rest x.0 y.0)
+same_no_frame place rest a b (inr (inr x)) (inr (inr y)) = x.2 ∙ sym y.2
+
+same_message_fault : (place : ℕ) (f : Frame) (one other : List ℕ) (a b : Bad) → IsMessageFault place f one a → IsMessageFault place f other b → (one ≡ other) × (a ≡ b)
+same_message_fault place (Payload s m) one other a b (i, first, is, listed) (j, also, be, told) =
+    let inner : i ≡ j = let e = sym first ∙ also in cc in
+    (listed ∙ sym told, is ∙ ap (λ (i : Bad). at (place + 8 + i.place) i.reason) inner ∙ sym be)
+same_message_fault place (Ack s r) one other a b is also = absurd is
+
+same_bad_frame : (place : ℕ) (rest one other : List ℕ) (a b : Bad) → IsBadFrame place rest one a → IsBadFrame place rest other b → (one ≡ other) × (a ≡ b)
+same_bad_frame place rest one other a b x y =
+    let same = (frame_once x.first y.first x.later y.later x.fits y.fits (sym x.spelled ∙ y.spelled)).0 in
+    same_message_fault place y.first one other a b (subst (λ (f : Frame). IsMessageFault place f one a) same x.is) y.is
+
+same_fault : (place : ℕ) (rest one other : List ℕ) (a b : Bad) → IsFault place rest one a → IsFault place rest other b → (one ≡ other) × (a ≡ b)
+same_fault place rest one other a b (inl x) (inl y) = same_bad_frame place rest one other a b x y
+same_fault place rest one other a b (inl x) (inr y) = absurd (no_frame_stops place rest b y.0 x.first x.later x.fits x.spelled)
+same_fault place rest one other a b (inr x) (inl y) = absurd (no_frame_stops place rest a x.0 y.first y.later y.fits y.spelled)
+same_fault place rest one other a b (inr x) (inr y) = (x.1 ∙ sym y.1, same_no_frame place rest a b x.0 y.0)
+
+-- where nothing is left there is no fault
+no_fault : (place : ℕ) (rest text : List ℕ) (fault : Bad) → IsFault place rest text fault → rest ≡ [] → ⊥
+no_fault place rest text fault (inl is) none = frame_not_partial is.first is.later [] is.fits (sym none ∙ is.spelled) nothing_is_partial
+no_fault place rest text fault (inr (inl is, _)) none = subst IsBadType none is.0
+no_fault place rest text fault (inr (inr (inl is), _)) none = (subst IsTooLarge none is.0).code
+no_fault place rest text fault (inr (inr (inr is), _)) none = is.1 none
+
+same_ending : (frames : List Frame) (rest one other : List ℕ) (a b : Option Bad) → IsEnding frames rest one a → IsEnding frames rest other b → (one ≡ other) × (a ≡ b)
+same_ending frames rest one other None None x y = (x.1 ∙ sym y.1, refl)
+same_ending frames rest one other None (Some b) x y = absurd (no_fault (length (flat_map frame frames)) rest y.0 b y.1 x.0)
+same_ending frames rest one other (Some a) None x y = absurd (no_fault (length (flat_map frame frames)) rest x.0 a x.1 y.0)
+same_ending frames rest one other (Some a) (Some b) x y =
+    let same = same_fault (length (flat_map frame frames)) rest x.0 y.0 a b x.1 y.1 in
+    (x.2 ∙ ap (λ (t : List ℕ). t ++ ended (fault_line a)) same.0 ∙ ap (λ (f : Bad). y.0 ++ ended (fault_line f)) same.1 ∙ sym y.2, ap (λ (f : Bad). Some f) same.1)
+
+pub one_listing : (bytes one other : List ℕ) (fault last : Option Bad) → IsListing bytes one fault → IsListing bytes other last → (one ≡ other) × (fault ≡ last)
+one_listing bytes one other fault last x y =
+    let same = same_frames x.frames y.frames x.rest y.rest (lines_whole 0 x.frames x.lines x.listed) (lines_whole 0 y.frames y.lines y.listed)
+    (ending_stops x.frames x.rest x.ending fault x.ends) (ending_stops y.frames y.rest y.ending last y.ends) (sym x.spelled ∙ y.spelled) in
+    let lines = same_lines 0 y.frames x.lines y.lines (subst (λ (fs : List Frame). AreListedAs 0 fs x.lines) same.0 x.listed) y.listed in
+    let ending = same_ending y.frames y.rest x.ending y.ending fault last
+    (subst (λ (r : List ℕ). IsEnding y.frames r x.ending fault) same.1 (subst (λ (fs : List Frame). IsEnding fs x.rest x.ending fault) same.0 x.ends)) y.ends in
+    (x.whole ∙ ap (λ (t : List ℕ). t ++ x.ending) lines ∙ ap (λ (t : List ℕ). y.lines ++ t) ending.0 ∙ sym y.whole, ending.1)
+
+left_whole : (frames : List Frame) (rest text : List ℕ) (fault : Option Bad) → IsEnding frames rest text fault → rest ≡ [] → fault ≡ None
+left_whole frames rest text None is none = refl
+left_whole frames rest text (Some fault) is none = absurd (no_fault (length (flat_map frame frames)) rest is.0 fault is.1 none)
+
+pub whole_listing : (bytes text : List ℕ) (fault : Option Bad) → IsWhole bytes → IsListing bytes text fault → fault ≡ None
+whole_listing bytes text fault (gs, each, spelled) x =
+    let same = same_frames x.frames gs x.rest [] (lines_whole 0 x.frames x.lines x.listed) each (ending_stops x.frames x.rest x.ending fault x.ends) (nothing_stops [] refl)
+    (sym x.spelled ∙ spelled ∙ sym (append-nil (flat_map frame gs))) in
+    left_whole x.frames x.rest x.ending fault x.ends same.1
+
+pub listing_whole : (bytes text : List ℕ) → IsListing bytes text None → IsWhole bytes
+listing_whole bytes text x = (x.frames, lines_whole 0 x.frames x.lines x.listed, x.spelled ∙ ap (λ (r : List ℕ). flat_map frame x.frames ++ r) x.ends.0 ∙ append-nil (flat_map frame x.frames))

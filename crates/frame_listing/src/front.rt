@@ -1,0 +1,84 @@
+//! The frame in front of what is left of a stream.
+
+ghost use Rattle.std.specs.Prelude.{◌≡◌, ◌≢◌, ◌+◌, ◌<◌, ◌^◌, ◌++◌, [], length};
+ghost use Rattle.link_framing.specs.Framing.{frame};
+ghost use Rattle.link_framing.specs.declared.frame.Frame.TheVariants.{Payload};
+ghost use Rattle.frame_listing.specs.Fronts.{IsNext, AddsFrame, AddsFront};
+
+use crate::lines::{put_ack_line, put_message_line, put_payload_line};
+use forwarding_header::decode_header;
+use link_framing::{Frame, FrameFault, first_frame};
+use reload_base::Bytes;
+use std::alloc::Global;
+use wire_core::{Bad, DecodeFault, Reason};
+
+// A fault at a place of the stream.
+fn fault_at<T>(place: u64, reason: Reason) -> Result<T, DecodeFault>
+    ensures { result ≡ Err (DecodeFault.Bad (record { place = place; reason = reason })) }
+{
+    Err(DecodeFault::Bad(Bad { place, reason }))
+}
+
+// The frame in front, which stands at a place, and the number of its bytes.
+fn next_frame(alloc: Global, rest: &[u8], place: u64) -> Result<(Frame, usize), DecodeFault>
+    requires small { place + length rest.now < 2 ^ 63 }
+    requires some { rest.now ≢ [] }
+    ensures { IsNext result place rest.now }
+{
+    match first_frame(alloc, rest, place) {
+        Ok(Some(found)) => Ok(found),
+        Ok(None) => fault_at(place + rest.len() as u64, Reason::Short),
+        Err(FrameFault::BadType(at)) => fault_at(at, Reason::BadValue),
+        Err(FrameFault::TooLarge(at)) => fault_at(at, Reason::TooLarge),
+        Err(FrameFault::NoMemory) => Err(DecodeFault::NoMemory),
+    }
+}
+
+// Adds the lines of a payload that stands at a place: its own, and that of its message.
+fn put_payload(
+    alloc: Global,
+    out: &mut Bytes,
+    place: u64,
+    sequence: u32,
+    message: &[u8],
+) -> Result<(), DecodeFault>
+    requires { place + (8 + length message.now) < 2 ^ 63 }
+    ensures { AddsFrame result place (Payload sequence message.now) out.old out.new }
+{
+    put_payload_line(out, place, sequence, message.len() as u64)?;
+    match decode_header(alloc, message) {
+        Ok((header, _)) => Ok(put_message_line(out, &header)?),
+        Err(DecodeFault::Bad(bad)) => fault_at(place + 8 + bad.place, bad.reason),
+        Err(DecodeFault::NoMemory) => Err(DecodeFault::NoMemory),
+    }
+}
+
+// Adds the lines of a frame that stands at a place.
+fn put_frame(alloc: Global, out: &mut Bytes, place: u64, first: &Frame) -> Result<(), DecodeFault>
+    requires { place + length (frame first.now) < 2 ^ 63 }
+    ensures { AddsFrame result place first.now out.old out.new }
+{
+    match first {
+        Frame::Payload { sequence, message } => {
+            put_payload(alloc, out, place, *sequence, message.as_slice())
+        }
+        Frame::Ack { sequence, received } => Ok(put_ack_line(out, place, *sequence, *received)?),
+    }
+}
+
+/// Adds the lines of the frame in front of what is left of a stream, which stands at a place, and answers how many
+/// bytes it has; or those before the first fault, and answers that.
+pub(crate) fn put_front(
+    alloc: Global,
+    out: &mut Bytes,
+    rest: &[u8],
+    place: u64,
+) -> Result<usize, DecodeFault>
+    requires small { place + length rest.now < 2 ^ 63 }
+    requires some { rest.now ≢ [] }
+    ensures { AddsFront result place rest.now out.old out.new }
+{
+    let (first, len) = next_frame(alloc, rest, place)?;
+    put_frame(alloc, out, place, &first)?;
+    Ok(len)
+}
