@@ -3,6 +3,7 @@
 
 mod command;
 mod desk;
+mod form;
 mod heard;
 mod requests;
 mod run;

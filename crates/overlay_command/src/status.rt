@@ -17,6 +17,8 @@ pub enum Status {
     BadLine,
     /// More than 16,777,216 bytes were read.
     TooLong,
+    /// The stream isn't whole frames of whole messages.
+    BadBytes,
 }
 
 impl Status {
@@ -35,6 +37,7 @@ impl Status {
             Status::NoMemory => 5,
             Status::BadLine => 6,
             Status::TooLong => 7,
+            Status::BadBytes => 10,
         }
     }
 }

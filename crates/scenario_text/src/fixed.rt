@@ -63,7 +63,7 @@ impl Fixed {
             Fixed::Requests => b"end requests=",
             Fixed::Decisions => b" decisions=",
             Fixed::BadLine => b"bad line ",
-            Fixed::Usage => b"usage: overlay run",
+            Fixed::Usage => b"usage: overlay run|show",
             Fixed::TooLong => b"too long",
         }
     }

@@ -60,3 +60,8 @@ pub fn ended(
 pub fn run_of(alloc: Global, content: &[u8]) -> Result<(Status, Bytes), NoMemory> {
     ended(alloc, &["run"], content, &[], &[])
 }
+
+/// The same for `show` over a stream.
+pub fn show_of(alloc: Global, stream: &[u8]) -> Result<(Status, Bytes), NoMemory> {
+    ended(alloc, &["show"], stream, &[], &[])
+}

@@ -8,6 +8,8 @@ mod calls;
 #[cfg(test)]
 mod fetches;
 #[cfg(test)]
+mod listings;
+#[cfg(test)]
 mod plain;
 #[cfg(test)]
 mod refusals;

@@ -7,18 +7,20 @@ const MOST_BYTES: usize = 16_777_216;
 
 #[test]
 fn words_that_are_no_form_of_a_call(rt: HostRuntime) -> Result<(), Fail> {
-    let forms: [&[&str]; 6] = [
+    let forms: [&[&str]; 8] = [
         &[],
         &[""],
         &["run", "run"],
+        &["run", "show"],
         &["Run"],
+        &["shows"],
         &["trace"],
         &["--help"],
     ];
     for words in forms {
         let (status, written) = ended(rt.alloc(), words, b"", &[1], &[])?;
         assert_eq!(rt; status, Status::Usage, "of {words:?}");
-        assert_eq!(rt; written.as_slice(), b"usage: overlay run\n".as_slice());
+        assert_eq!(rt; written.as_slice(), b"usage: overlay run|show\n".as_slice());
     }
     Ok(())
 }

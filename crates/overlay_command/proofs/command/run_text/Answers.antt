@@ -2,7 +2,7 @@ use Rattle.std.proofs.Common.{inr}
 use Rattle.overlay_command.specs.declared.status.Status.TheVariants.{Done}
 use Rattle.overlay_command.specs.Desks.{transcript}
 use Rattle.overlay_command.proofs.Tops.{run_due, bad_told}
-use Rattle.overlay_command.proofs.command.answer.Goals as goal
+use Rattle.overlay_command.proofs.command.run_text.Goals as goal
 
 pub returns-in-Err-BadLine-clause-ends : goal.returns-in-Err-BadLine-clause-ends
 returns-in-Err-BadLine-clause-ends g c = bad_told c.args.text.now c.in-Err-BadLine.n (g.K.Sink.written c.args.sink.now) (g.K.Sink.written c.refuse_line.new.sink) c.refuse_line.result c.requires (rw c.in-Err-BadLine.field-0-is at c.in-Err-BadLine.ensures.first_bad) c.refuse_line.ensures.ends
