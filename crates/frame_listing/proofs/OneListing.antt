@@ -1,5 +1,5 @@
 -- A stream has one listing.
-use Rattle.std.proofs.Common.{◌≡◌, ℕ, ◌+◌, inl, inr, List, [], ◌∷◌, ◌++◌, length, Option, None, Some, Err, refl, sym, ap, subst, ◌∙◌, append_assoc, append-nil}
+use Rattle.std.proofs.Common.{◌≡◌, ℕ, ◌+◌, inl, inr, List, [], ◌∷◌, ◌++◌, length, Option, None, Some, Err, refl, sym, ap, subst, ◌∙◌, append-nil}
 use Rattle.std.specs.List.{flat_map, AllByRecursion}
 use Rattle.text_words.specs.Lines.{ended}
 use Rattle.wire_core.specs.declared.bad.Bad.{Bad}
@@ -11,16 +11,13 @@ use Rattle.link_framing.specs.declared.frame.Frame.TheVariants.{Payload, Ack}
 use Rattle.link_framing.specs.Framing.{frame, IsFrame}
 use Rattle.link_framing.specs.Streams.{IsPartial, IsBadType, IsTooLarge}
 use Rattle.link_framing.proofs.Layouts.{frame_once}
+use Rattle.link_framing.proofs.Runs.{Stops, readings}
 use Rattle.link_framing.proofs.Cases.{empty_front, frame_not_bad, frame_not_large, frame_not_partial, partial_not_bad, partial_not_large, bad_not_large}
 use Rattle.frame_listing.specs.Lines.{payload_line, message_line, fault_line}
 use Rattle.frame_listing.specs.Listing.{HoldsMessage, IsWhole, IsListedAs, AreListedAs, at, IsMessageFault, IsBadFrame, IsNoFrame, IsFault, IsEnding, IsListing}
 
 abbrev IsWholeFrame : Frame → Type 0
 IsWholeFrame f = IsFrame f × HoldsMessage f
-
--- no whole frame of a whole message stands in front
-abbrev Stops : List ℕ → Type 0
-Stops rest = (f : Frame) (more : List ℕ) → IsWholeFrame f → rest ≡ frame f ++ more → ⊥
 
 -- a message that is whole has no fault
 whole_message : (h : Header) (m : List ℕ) (inner : Bad) → IsMessage h m → message_at m ≡ Err inner → ⊥
@@ -35,7 +32,7 @@ no_frame_stops place rest fault (inl is) f more fits e = frame_not_bad f more re
 no_frame_stops place rest fault (inr (inl is)) f more fits e = frame_not_large f more rest fits e is.0
 no_frame_stops place rest fault (inr (inr is)) f more fits e = frame_not_partial f more rest fits e is.0
 
-fault_stops : (place : ℕ) (rest text : List ℕ) (fault : Bad) → IsFault place rest text fault → Stops rest
+fault_stops : (place : ℕ) (rest text : List ℕ) (fault : Bad) → IsFault place rest text fault → Stops IsWholeFrame rest
 fault_stops place rest text fault (inl is) f more whole e =
     let same = (frame_once f is.first more is.later whole.0 is.fits (sym e ∙ is.spelled)).0 in
     held_whole place is.first text fault (subst HoldsMessage same whole.1) is.is
@@ -44,24 +41,12 @@ fault_stops place rest text fault (inr is) f more whole e = no_frame_stops place
 nothing_is_partial : IsPartial []
 nothing_is_partial = inl empty_front
 
-nothing_stops : (rest : List ℕ) → rest ≡ [] → Stops rest
+nothing_stops : (rest : List ℕ) → rest ≡ [] → Stops IsWholeFrame rest
 nothing_stops rest none f more whole e = frame_not_partial f more [] whole.0 (sym none ∙ e) nothing_is_partial
 
-ending_stops : (frames : List Frame) (rest text : List ℕ) (fault : Option Bad) → IsEnding frames rest text fault → Stops rest
+ending_stops : (frames : List Frame) (rest text : List ℕ) (fault : Option Bad) → IsEnding frames rest text fault → Stops IsWholeFrame rest
 ending_stops frames rest text None is = nothing_stops rest is.0
 ending_stops frames rest text (Some fault) is = fault_stops (length (flat_map frame frames)) rest is.0 fault is.1
-
--- the frames before what stops
-same_frames : (fs gs : List Frame) (rest last : List ℕ) → AllByRecursion IsWholeFrame fs → AllByRecursion IsWholeFrame gs → Stops rest → Stops last
-    → flat_map frame fs ++ rest ≡ flat_map frame gs ++ last → (fs ≡ gs) × (rest ≡ last)
-same_frames [] [] rest last each also stop end e = (refl, e)
-same_frames [] (g ∷ gs) rest last each also stop end e = absurd (stop g (flat_map frame gs ++ last) also.0 (e ∙ append_assoc (frame g) (flat_map frame gs) last))
-same_frames (f ∷ fs) [] rest last each also stop end e = absurd (end f (flat_map frame fs ++ rest) each.0 (sym e ∙ append_assoc (frame f) (flat_map frame fs) rest))
-same_frames (f ∷ fs) (g ∷ gs) rest last each also stop end e =
-    let same = frame_once f g (flat_map frame fs ++ rest) (flat_map frame gs ++ last) each.0.0 also.0.0
-    (sym (append_assoc (frame f) (flat_map frame fs) rest) ∙ e ∙ append_assoc (frame g) (flat_map frame gs) last) in
-    let others = same_frames fs gs rest last each.1 also.1 stop end same.1 in
-    (ap (λ (x : Frame). x ∷ fs) same.0 ∙ ap (λ (xs : List Frame). g ∷ xs) others.0, others.1)
 
 frame_lines_hold : (place : ℕ) (f : Frame) (own : List ℕ) → IsListedAs place f own → HoldsMessage f
 frame_lines_hold place (Payload s m) own is = (is.0, is.1)
@@ -127,7 +112,7 @@ same_ending frames rest one other (Some a) (Some b) x y =
 
 pub one_listing : (bytes one other : List ℕ) (fault last : Option Bad) → IsListing bytes one fault → IsListing bytes other last → (one ≡ other) × (fault ≡ last)
 one_listing bytes one other fault last x y =
-    let same = same_frames x.frames y.frames x.rest y.rest (lines_whole 0 x.frames x.lines x.listed) (lines_whole 0 y.frames y.lines y.listed)
+    let same = readings IsWholeFrame (λ f whole. whole.0) x.frames y.frames x.rest y.rest (lines_whole 0 x.frames x.lines x.listed) (lines_whole 0 y.frames y.lines y.listed)
     (ending_stops x.frames x.rest x.ending fault x.ends) (ending_stops y.frames y.rest y.ending last y.ends) (sym x.spelled ∙ y.spelled) in
     let lines = same_lines 0 y.frames x.lines y.lines (subst (λ (fs : List Frame). AreListedAs 0 fs x.lines) same.0 x.listed) y.listed in
     let ending = same_ending y.frames y.rest x.ending y.ending fault last
@@ -140,7 +125,7 @@ left_whole frames rest text (Some fault) is none = absurd (no_fault (length (fla
 
 pub whole_listing : (bytes text : List ℕ) (fault : Option Bad) → IsWhole bytes → IsListing bytes text fault → fault ≡ None
 whole_listing bytes text fault (gs, each, spelled) x =
-    let same = same_frames x.frames gs x.rest [] (lines_whole 0 x.frames x.lines x.listed) each (ending_stops x.frames x.rest x.ending fault x.ends) (nothing_stops [] refl)
+    let same = readings IsWholeFrame (λ f whole. whole.0) x.frames gs x.rest [] (lines_whole 0 x.frames x.lines x.listed) each (ending_stops x.frames x.rest x.ending fault x.ends) (nothing_stops [] refl)
     (sym x.spelled ∙ spelled ∙ sym (append-nil (flat_map frame gs))) in
     left_whole x.frames x.rest x.ending fault x.ends same.1
 

@@ -37,20 +37,25 @@ end_not_frame f rest bytes fits spelled (inl is) = frame_not_partial f rest byte
 end_not_frame f rest bytes fits spelled (inr (inl is)) = frame_not_bad f rest bytes fits spelled is
 end_not_frame f rest bytes fits spelled (inr (inr is)) = frame_not_large f rest bytes fits spelled is
 
--- two readings of the same bytes
-readings : (fs gs : List Frame) (rest last : List ℕ) → AllByRecursion IsFrame fs → AllByRecursion IsFrame gs → IsEnd rest → IsEnd last
+-- no frame of a kind stands in front
+abbrev pub Stops : (Frame → Type 0) → List ℕ → Type 0
+Stops Fits rest = (f : Frame) (more : List ℕ) → Fits f → rest ≡ frame f ++ more → ⊥
+
+-- two readings of the same bytes as frames of a kind, and what stands behind them
+pub readings : (Fits : Frame → Type 0) → ((f : Frame) → Fits f → IsFrame f) → (fs gs : List Frame) (rest last : List ℕ) → AllByRecursion Fits fs → AllByRecursion Fits gs → Stops Fits rest → Stops Fits last
     → flat_map frame fs ++ rest ≡ flat_map frame gs ++ last → (fs ≡ gs) × (rest ≡ last)
-readings [] [] rest last each also end stop e = (refl, e)
-readings [] (g ∷ gs) rest last each also end stop e = absurd (end_not_frame g (flat_map frame gs ++ last) rest also.0 (e ∙ append_assoc (frame g) (flat_map frame gs) last) end)
-readings (f ∷ fs) [] rest last each also end stop e = absurd (end_not_frame f (flat_map frame fs ++ rest) last each.0 (sym e ∙ append_assoc (frame f) (flat_map frame fs) rest) stop)
-readings (f ∷ fs) (g ∷ gs) rest last each also end stop e =
-    let same = frame_once f g (flat_map frame fs ++ rest) (flat_map frame gs ++ last) each.0 also.0
+readings Fits are [] [] rest last each also end stop e = (refl, e)
+readings Fits are [] (g ∷ gs) rest last each also end stop e = absurd (end g (flat_map frame gs ++ last) also.0 (e ∙ append_assoc (frame g) (flat_map frame gs) last))
+readings Fits are (f ∷ fs) [] rest last each also end stop e = absurd (stop f (flat_map frame fs ++ rest) each.0 (sym e ∙ append_assoc (frame f) (flat_map frame fs) rest))
+readings Fits are (f ∷ fs) (g ∷ gs) rest last each also end stop e =
+    let same = frame_once f g (flat_map frame fs ++ rest) (flat_map frame gs ++ last) (are f each.0) (are g also.0)
     (sym (append_assoc (frame f) (flat_map frame fs) rest) ∙ e ∙ append_assoc (frame g) (flat_map frame gs) last) in
-    let others = readings fs gs rest last each.1 also.1 end stop same.1 in
+    let others = readings Fits are fs gs rest last each.1 also.1 end stop same.1 in
     (ap (λ (x : Frame). x ∷ fs) same.0 ∙ ap (λ (xs : List Frame). g ∷ xs) others.0, others.1)
 
 pub one_stream : (fs gs : List Frame) (bytes rest last : List ℕ) → Stream fs bytes rest → Stream gs bytes last → (fs ≡ gs) × (rest ≡ last)
-one_stream fs gs bytes rest last s t = readings fs gs rest last s.each t.each s.end t.end (sym s.whole ∙ t.whole)
+one_stream fs gs bytes rest last s t =
+    readings IsFrame (λ f fits. fits) fs gs rest last s.each t.each (λ f more fits e. end_not_frame f more rest fits e s.end) (λ f more fits e. end_not_frame f more last fits e t.end) (sym s.whole ∙ t.whole)
 
 pub run_stream : (calls : List Call) (held : Part) → Run nothing calls held → IsEnd held.bytes → Stream (taken_by calls) (fed_by calls) held.bytes
 run_stream calls held run end = record { whole = run_bytes calls nothing held run; each = run_frames calls nothing held run; end = end }
