@@ -1,10 +1,10 @@
 -- What a status says of what was read and written.
-use Rattle.std.proofs.Common.{◌≡◌, ℕ, ◌<◌, ◌≤◌, List, [], ◌∷◌, length, get_or, Option, Some, None, String, Bool, IsTrue, Result, Ok, refl, ap, sym, ◌∙◌, inr, arith}
+use Rattle.std.proofs.Common.{◌≡◌, ℕ, ◌<◌, ◌≤◌, List, [], ◌∷◌, length, get_or, Option, Some, None, String, Bool, IsTrue, Result, Ok, refl, ap, sym, subst, ◌∙◌, ◌⊎◌, inl, inr, take, arith}
 use Rattle.std.specs.Prelude.{map, string_bytes}
 use Rattle.std.specs.Global.{Global}
 use Rattle.std.specs.Str.{bytes_eq}
 use Rattle.std.proofs.lemmas.Slice.Eq.{bytes_eq-Decides}
-use Rattle.std.specs.Io.KnownBytes.{Consumes}
+use Rattle.std.specs.Io.KnownBytes.{Appends, Consumes}
 use Rattle.text_words.specs.Lines.{ended}
 use Rattle.scenario_text.specs.declared.scenario.Scenario.{Scenario}
 use Rattle.scenario_text.specs.declared.fixed.Fixed.TheVariants as fixed
@@ -20,7 +20,7 @@ use Rattle.wire_core.specs.declared.bad.Bad.{Bad}
 use Rattle.frame_listing.specs.Listing.{IsListing}
 use Rattle.frame_listing.proofs.OneListing.{listing_whole, whole_listing}
 use Rattle.overlay_command.specs.Desks.{transcript}
-use Rattle.overlay_command.specs.Top.{most_bytes, HasForm, Ends, IsDue, EndsInput, IsToldBy, listed}
+use Rattle.overlay_command.specs.Top.{most_bytes, HasForm, Ends, IsDue, IsDueAfter, IsDueFor, EndsInput, IsToldBy, listed}
 use Rattle.overlay_command.proofs.Runs.{run_is_legal, run_is_once, run_gives}
 use Rattle.overlay_command.proofs.Times.{run_in_time, run_gives_then}
 
@@ -46,16 +46,33 @@ one_scenario text s other few is also =
 pub run_due : (text : List ℕ) (s : Scenario) → length text ≤ most_bytes → IsTextOf text s → IsDue Run Done text (transcript s)
 run_due text s few is = (few, s, record { spells = is; only = λ other also. one_scenario text s other few is also; written = refl; legal = run_is_legal s; once = run_is_once s; in_time = run_in_time s; gives = run_gives s; gives_then = run_gives_then s })
 
+-- lines were written whole, or a part of them
+told_cases : (told : Status) (old new : Option (List ℕ)) (lines : List ℕ) (status : Status) → IsToldBy told old new lines status
+    → ((status ≡ told) × Appends old new lines) ⊎ (((status ≡ WriteFault) ⊎ (status ≡ NoMemory)) × (n : ℕ) × Appends old new (take n lines))
+told_cases told old new lines WriteFault by = inr (inl refl, by.0, by.1)
+told_cases told old new lines NoMemory by = inr (inr refl, by.0, by.1)
+told_cases told old new lines Done by = inl by
+told_cases told old new lines Usage by = inl by
+told_cases told old new lines ReadFault by = inl by
+told_cases told old new lines BadLine by = inl by
+told_cases told old new lines TooLong by = inl by
+told_cases told old new lines BadBytes by = inl by
+
+-- lines that are due for what was read were told
+input_told : (form : Form) (bytes lines : List ℕ) (told : Status) (old new : Option (List ℕ)) (status : Status) → IsDue form told bytes lines
+    → (Appends old new lines → EndsInput form bytes old new told) → IsToldBy told old new lines status → EndsInput form bytes old new status
+input_told form bytes lines told old new status due whole by =
+    elim (told_cases told old new lines status by) [
+      | inl (same, all) ↦ subst (EndsInput form bytes old new) (sym same) (whole all)
+      | inr (inl same, n, part) ↦ subst (EndsInput form bytes old new) (sym same) (told, lines, n, due, part)
+      | inr (inr same, n, part) ↦ subst (EndsInput form bytes old new) (sym same) (inr (told, lines, n, due, part))
+    ]
+
 -- a bad line was told
 pub bad_told : (text : List ℕ) (n : ℕ) (old new : Option (List ℕ)) (status : Status) → length text ≤ most_bytes → IsFirstBad text n → IsToldBy BadLine old new (ended (bad_line n)) status → EndsInput Run text old new status
-bad_told text n old new WriteFault few bad told = (BadLine, ended (bad_line n), told.0, (few, n, bad, refl), told.1)
-bad_told text n old new NoMemory few bad told = inr (BadLine, ended (bad_line n), told.0, (few, n, bad, refl), told.1)
-bad_told text n old new BadLine few bad told = (ended (bad_line n), (few, n, bad, refl), told.1)
-bad_told text n old new Done few bad told = absurd (let e = told.0 in cc)
-bad_told text n old new Usage few bad told = absurd (let e = told.0 in cc)
-bad_told text n old new ReadFault few bad told = absurd (let e = told.0 in cc)
-bad_told text n old new TooLong few bad told = absurd (let e = told.0 in cc)
-bad_told text n old new BadBytes few bad told = absurd (let e = told.0 in cc)
+bad_told text n old new status few bad by =
+    let due : IsDue Run BadLine text (ended (bad_line n)) = (few, n, bad, refl) in
+    input_told Run text (ended (bad_line n)) BadLine old new status due (λ all. (ended (bad_line n), due, all)) by
 
 -- the listing of a stream is due
 pub listing_due : (bytes text : List ℕ) (fault : Option Bad) → length bytes ≤ most_bytes → IsListing bytes text fault → IsDue Show (listed fault) bytes text
@@ -64,20 +81,10 @@ listing_due bytes text (Some fault) few is = (few, λ whole. absurd (let e = who
 
 -- a listing was told
 pub listing_told : (bytes text : List ℕ) (fault : Option Bad) (old new : Option (List ℕ)) (status : Status) → length bytes ≤ most_bytes → IsListing bytes text fault → IsToldBy (listed fault) old new text status → EndsInput Show bytes old new status
-listing_told bytes text fault old new WriteFault few is told = (listed fault, text, told.0, listing_due bytes text fault few is, told.1)
-listing_told bytes text fault old new NoMemory few is told = inr (listed fault, text, told.0, listing_due bytes text fault few is, told.1)
-listing_told bytes text None old new Done few is told = (text, listing_due bytes text None few is, told.1)
-listing_told bytes text (Some fault) old new BadBytes few is told = (text, listing_due bytes text (Some fault) few is, told.1)
-listing_told bytes text (Some fault) old new Done few is told = absurd (let e = told.0 in cc)
-listing_told bytes text None old new BadBytes few is told = absurd (let e = told.0 in cc)
-listing_told bytes text None old new BadLine few is told = absurd (let e = told.0 in cc)
-listing_told bytes text (Some fault) old new BadLine few is told = absurd (let e = told.0 in cc)
-listing_told bytes text None old new Usage few is told = absurd (let e = told.0 in cc)
-listing_told bytes text (Some fault) old new Usage few is told = absurd (let e = told.0 in cc)
-listing_told bytes text None old new ReadFault few is told = absurd (let e = told.0 in cc)
-listing_told bytes text (Some fault) old new ReadFault few is told = absurd (let e = told.0 in cc)
-listing_told bytes text None old new TooLong few is told = absurd (let e = told.0 in cc)
-listing_told bytes text (Some fault) old new TooLong few is told = absurd (let e = told.0 in cc)
+listing_told bytes text None old new status few is by =
+    let due = listing_due bytes text None few is in input_told Show bytes text Done old new status due (λ all. (text, due, all)) by
+listing_told bytes text (Some fault) old new status few is by =
+    let due = listing_due bytes text (Some fault) few is in input_told Show bytes text BadBytes old new status due (λ all. (text, due, all)) by
 
 -- what is too long is due as such, whatever the form
 too_long : (form : Form) (bytes : List ℕ) → most_bytes < length bytes → IsDue form TooLong bytes (ended (text_of fixed.TooLong))
@@ -86,11 +93,12 @@ too_long Show bytes many = (many, refl)
 
 -- too many bytes were told
 pub long_told : (form : Form) (words : List (String Global)) (bytes : List ℕ) (left left' old new : Option (List ℕ)) (status : Status) → HasForm form words → Consumes left left' bytes → most_bytes < length bytes → IsToldBy TooLong old new (ended (text_of fixed.TooLong)) status → Ends words left left' old new status
-long_told form words bytes left left' old new WriteFault is read many told = (ended (text_of fixed.TooLong), told.0, inr (form, is, TooLong, (bytes, read, too_long form bytes many)), told.1)
-long_told form words bytes left left' old new NoMemory is read many told = inr (ended (text_of fixed.TooLong), told.0, inr (form, is, TooLong, (bytes, read, too_long form bytes many)), told.1)
-long_told form words bytes left left' old new TooLong is read many told = (form, is, ended (text_of fixed.TooLong), (bytes, read, too_long form bytes many), told.1)
-long_told form words bytes left left' old new Done is read many told = absurd (let e = told.0 in cc)
-long_told form words bytes left left' old new Usage is read many told = absurd (let e = told.0 in cc)
-long_told form words bytes left left' old new ReadFault is read many told = absurd (let e = told.0 in cc)
-long_told form words bytes left left' old new BadLine is read many told = absurd (let e = told.0 in cc)
-long_told form words bytes left left' old new BadBytes is read many told = absurd (let e = told.0 in cc)
+long_told form words bytes left left' old new status is read many by =
+    let line = ended (text_of fixed.TooLong) in
+    let due : IsDueAfter form left left' TooLong line = (bytes, read, too_long form bytes many) in
+    let whole : IsDueFor words left left' line = inr (form, is, TooLong, due) in
+    elim (told_cases TooLong old new line status by) [
+      | inl (same, all) ↦ subst (Ends words left left' old new) (sym same) (form, is, line, due, all)
+      | inr (inl same, n, part) ↦ subst (Ends words left left' old new) (sym same) (line, n, whole, part)
+      | inr (inr same, n, part) ↦ subst (Ends words left left' old new) (sym same) (inr (line, n, whole, part))
+    ]
