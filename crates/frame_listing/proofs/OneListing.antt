@@ -1,5 +1,5 @@
 -- A stream has one listing.
-use Rattle.std.proofs.Common.{◌≡◌, ℕ, ◌+◌, inl, inr, List, [], ◌∷◌, ◌++◌, length, Option, None, Some, Err, refl, sym, ap, subst, ◌∙◌, append-nil}
+use Rattle.std.proofs.Common.{◌≡◌, ◌↔◌, ℕ, ◌+◌, inl, inr, List, [], ◌∷◌, ◌++◌, length, Option, None, Some, Err, refl, sym, ap, subst, ◌∙◌, append-nil}
 use Rattle.std.specs.List.{flat_map, AllByRecursion}
 use Rattle.text_words.specs.Lines.{ended}
 use Rattle.wire_core.specs.declared.bad.Bad.{Bad}
@@ -123,11 +123,17 @@ left_whole : (frames : List Frame) (rest text : List ℕ) (fault : Option Bad) �
 left_whole frames rest text None is none = refl
 left_whole frames rest text (Some fault) is none = absurd (no_fault (length (flat_map frame frames)) rest is.0 fault is.1 none)
 
-pub whole_listing : (bytes text : List ℕ) (fault : Option Bad) → IsWhole bytes → IsListing bytes text fault → fault ≡ None
-whole_listing bytes text fault (gs, each, spelled) x =
-    let same = readings IsWholeFrame (λ f whole. whole.0) x.frames gs x.rest [] (lines_whole 0 x.frames x.lines x.listed) each (ending_stops x.frames x.rest x.ending fault x.ends) (nothing_stops [] refl)
-    (sym x.spelled ∙ spelled ∙ sym (append-nil (flat_map frame gs))) in
-    left_whole x.frames x.rest x.ending fault x.ends same.1
+nothing_left : (frames : List Frame) (rest text : List ℕ) (fault : Option Bad) → IsEnding frames rest text fault → fault ≡ None → rest ≡ []
+nothing_left frames rest text None is none = is.0
+nothing_left frames rest text (Some fault) is none = absurd cc
 
-pub listing_whole : (bytes text : List ℕ) → IsListing bytes text None → IsWhole bytes
-listing_whole bytes text x = (x.frames, lines_whole 0 x.frames x.lines x.listed, x.spelled ∙ ap (λ (r : List ℕ). flat_map frame x.frames ++ r) x.ends.0 ∙ append-nil (flat_map frame x.frames))
+-- it has no fault exactly where the stream is whole
+pub listing_whole : (bytes text : List ℕ) (fault : Option Bad) → IsListing bytes text fault → (fault ≡ None) ↔ IsWhole bytes
+listing_whole bytes text fault x =
+    let each = lines_whole 0 x.frames x.lines x.listed in (
+      λ none. (x.frames, each, x.spelled ∙ ap (λ (r : List ℕ). flat_map frame x.frames ++ r) (nothing_left x.frames x.rest x.ending fault x.ends none) ∙ append-nil (flat_map frame x.frames)),
+      λ whole.
+          let same = readings IsWholeFrame (λ f whole. whole.0) x.frames whole.0 x.rest [] each whole.1 (ending_stops x.frames x.rest x.ending fault x.ends) (nothing_stops [] refl)
+          (sym x.spelled ∙ whole.2 ∙ sym (append-nil (flat_map frame whole.0))) in
+          left_whole x.frames x.rest x.ending fault x.ends same.1,
+    )

@@ -1,9 +1,9 @@
 //! The listing of a stream.
 
-ghost use Rattle.std.specs.Prelude.{◌≡◌, ◌<◌, ◌^◌, ◌++◌, length, Some, IfOk};
+ghost use Rattle.std.specs.Prelude.{◌≡◌, ◌<◌, ◌^◌, ◌↔◌, ◌++◌, length, Some, None, IfOk};
 ghost use Rattle.text_words.specs.Lines.{ended};
 ghost use Rattle.frame_listing.specs.Lines.{fault_line};
-ghost use Rattle.frame_listing.specs.Listing.{IsListing};
+ghost use Rattle.frame_listing.specs.Listing.{IsWhole, IsListing};
 
 use crate::front::put_front;
 use crate::lines::{put_end_line, put_fault_line};
@@ -22,6 +22,17 @@ pub struct Listing {
 
 /// Lists the frames of a whole stream, and the header of each message, up to the first fault.
 pub fn list_stream(alloc: Global, stream: &[u8]) -> Result<Listing, NoMemory>
+    requires { length stream.now < 2 ^ 63 }
+    // What is listed, and the first fault, if there is one.
+    ensures listing { IfOk result (λ listing. IsListing stream.now listing.text listing.fault) }
+    // There is none exactly where the stream is whole frames of whole messages.
+    ensures whole { IfOk result (λ listing. (listing.fault ≡ None) ↔ IsWhole stream.now) }
+{
+    list(alloc, stream)
+}
+
+// The same, frame by frame.
+fn list(alloc: Global, stream: &[u8]) -> Result<Listing, NoMemory>
     requires { length stream.now < 2 ^ 63 }
     ensures { IfOk result (λ listing. IsListing stream.now listing.text listing.fault) }
 {

@@ -1,5 +1,5 @@
 -- What a status says of what was read and written.
-use Rattle.std.proofs.Common.{◌≡◌, ℕ, ◌<◌, ◌≤◌, List, [], ◌∷◌, length, get_or, Option, Some, None, String, Bool, IsTrue, Result, Ok, refl, ap, sym, subst, ◌∙◌, ◌⊎◌, inl, inr, take, arith}
+use Rattle.std.proofs.Common.{◌≡◌, ◌↔◌, ℕ, ◌<◌, ◌≤◌, List, [], ◌∷◌, length, get_or, Option, Some, None, String, Bool, IsTrue, Result, Ok, refl, ap, sym, subst, ◌∙◌, ◌⊎◌, inl, inr, take, arith}
 use Rattle.std.specs.Prelude.{map, string_bytes}
 use Rattle.std.specs.Global.{Global}
 use Rattle.std.specs.Str.{bytes_eq}
@@ -17,8 +17,7 @@ use Rattle.overlay_command.specs.declared.status.Status.TheVariants.{Done, Usage
 use Rattle.overlay_command.specs.declared.form.Form.{Form}
 use Rattle.overlay_command.specs.declared.form.Form.TheVariants.{Run, Show}
 use Rattle.wire_core.specs.declared.bad.Bad.{Bad}
-use Rattle.frame_listing.specs.Listing.{IsListing}
-use Rattle.frame_listing.proofs.OneListing.{listing_whole, whole_listing}
+use Rattle.frame_listing.specs.Listing.{IsWhole, IsListing}
 use Rattle.overlay_command.specs.Desks.{transcript}
 use Rattle.overlay_command.specs.Top.{most_bytes, HasForm, Ends, IsDue, IsDueAfter, IsDueFor, EndsInput, IsToldBy, listed}
 use Rattle.overlay_command.proofs.Runs.{run_is_legal, run_is_once, run_gives}
@@ -75,16 +74,17 @@ bad_told text n old new status few bad by =
     input_told Run text (ended (bad_line n)) BadLine old new status due (λ all. (ended (bad_line n), due, all)) by
 
 -- the listing of a stream is due
-pub listing_due : (bytes text : List ℕ) (fault : Option Bad) → length bytes ≤ most_bytes → IsListing bytes text fault → IsDue Show (listed fault) bytes text
-listing_due bytes text None few is = (few, listing_whole bytes text is, is)
-listing_due bytes text (Some fault) few is = (few, λ whole. absurd (let e = whole_listing bytes text (Some fault) whole is in cc), fault, is)
+listing_due : (bytes text : List ℕ) (fault : Option Bad) → length bytes ≤ most_bytes → IsListing bytes text fault → ((fault ≡ None) ↔ IsWhole bytes) → IsDue Show (listed fault) bytes text
+listing_due bytes text None few is whole = (few, whole.0 refl, is)
+listing_due bytes text (Some fault) few is whole = (few, λ w. absurd (let e = whole.1 w in cc), fault, is)
 
 -- a listing was told
-pub listing_told : (bytes text : List ℕ) (fault : Option Bad) (old new : Option (List ℕ)) (status : Status) → length bytes ≤ most_bytes → IsListing bytes text fault → IsToldBy (listed fault) old new text status → EndsInput Show bytes old new status
-listing_told bytes text None old new status few is by =
-    let due = listing_due bytes text None few is in input_told Show bytes text Done old new status due (λ all. (text, due, all)) by
-listing_told bytes text (Some fault) old new status few is by =
-    let due = listing_due bytes text (Some fault) few is in input_told Show bytes text BadBytes old new status due (λ all. (text, due, all)) by
+pub listing_told : (bytes text : List ℕ) (fault : Option Bad) (old new : Option (List ℕ)) (status : Status) → length bytes ≤ most_bytes → IsListing bytes text fault → ((fault ≡ None) ↔ IsWhole bytes)
+    → IsToldBy (listed fault) old new text status → EndsInput Show bytes old new status
+listing_told bytes text None old new status few is whole by =
+    let due = listing_due bytes text None few is whole in input_told Show bytes text Done old new status due (λ all. (text, due, all)) by
+listing_told bytes text (Some fault) old new status few is whole by =
+    let due = listing_due bytes text (Some fault) few is whole in input_told Show bytes text BadBytes old new status due (λ all. (text, due, all)) by
 
 -- what is too long is due as such, whatever the form
 too_long : (form : Form) (bytes : List ℕ) → most_bytes < length bytes → IsDue form TooLong bytes (ended (text_of fixed.TooLong))
