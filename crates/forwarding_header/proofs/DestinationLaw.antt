@@ -1,11 +1,10 @@
 -- A destination is read as it is spelled.
-use Rattle.std.proofs.Common.{◌≡◌, ℕ, ◌+◌, ◌*◌, ◌/◌, ◌%◌, ◌^◌, ◌<◌, ◌≤◌, true, false, eqb, leb, List, [], ◌∷◌, ◌++◌, length, refl, sym, ap, ◌∙◌, length-append, lit<, arith}
-use Rattle.std.proofs.lemmas.Bool.{leb-true, leb-false, eqb-true, eqb-false}
+use Rattle.std.proofs.Common.{◌≡◌, ℕ, ◌+◌, ◌*◌, ◌/◌, ◌%◌, ◌^◌, ◌<◌, ◌≤◌, false, eqb, leb, List, [], ◌∷◌, ◌++◌, length, refl, sym, ap, length-append, lit<, arith}
+use Rattle.std.proofs.lemmas.Bool.{leb-true, leb-false, eqb-false}
 use Rattle.wire_core.specs.Spelling.{AreBytes, number, vector, id}
-use Rattle.wire_core.specs.Reading.{Reader}
 use Rattle.wire_core.proofs.Bytes.{length-number}
 use Rattle.wire_core.specs.Layout.{Anything, Nothing, Always, IsLayout}
-use Rattle.wire_core.proofs.Laws.{seq, laid_as, fits_as, spelled_as, at_end, placed, chosen, refused_laid, made}
+use Rattle.wire_core.proofs.Laws.{HasCode, with_code, seq, fits_as, spelled_as, at_end, placed, chosen, refused_laid, made}
 use Rattle.wire_core.proofs.Words.{number_laid, id_laid, sized_laid, vector_laid, counted_laid}
 use Rattle.forwarding_header.specs.declared.destination.Destination.{Destination}
 use Rattle.forwarding_header.specs.declared.destination.Destination.TheVariants.{Node, Resource, Opaque, Short}
@@ -21,10 +20,6 @@ body d = elim d [ Node node ↦ number 1 16 ++ number 16 node.0 | Resource resou
 
 abbrev pub DestinationFits : Destination → Type 0
 DestinationFits d = IsSpelledDestination d × IsDestinationInRange d
-
--- the destinations that begin with this byte
-abbrev HasCode : ℕ → Destination → Type 0
-HasCode code d = (code_of d ≡ code) × Unit {0}
 
 body-code : (d : Destination) → DestinationFits d → number 1 (code_of d) ++ body d ≡ destination d
 unfolding destination code_of body number
@@ -47,7 +42,7 @@ is_node (Resource resource) e f = absurd (omega arith)
 is_node (Opaque bytes) e f = absurd (omega arith)
 is_node (Short n) e f = absurd (omega arith)
 
-node_laid : IsLayout Anything (HasCode 1) DestinationFits body node_at
+node_laid : IsLayout Anything (HasCode code_of 1) DestinationFits body node_at
 unfolding node_at code_of body
 node_laid = made (λ n. Node (record { 0 = n })) (sized_laid 1 16 (lit< tt) (λ n f. length-number 16 n) (at_end (number_laid 16)))
     (λ n lt. ((refl, tt), (tt, lt), refl)) (λ d k f. is_node d k.0 f)
@@ -59,7 +54,7 @@ is_resource (Resource resource) e f = (resource.0, f.1, refl)
 is_resource (Opaque bytes) e f = absurd (omega arith)
 is_resource (Short n) e f = absurd (omega arith)
 
-resource_laid : IsLayout Anything (HasCode 2) DestinationFits body resource_at
+resource_laid : IsLayout Anything (HasCode code_of 2) DestinationFits body resource_at
 unfolding resource_at code_of body
 resource_laid = made (λ n. Resource (record { 0 = n })) (sized_laid 1 17 (lit< tt) (λ n f. omega (arith, length-append (number 1 16) (number 16 n), length-number 1 16, length-number 16 n)) (at_end id_laid))
     (λ n lt. ((refl, tt), (tt, lt), refl)) (λ d k f. is_resource d k.0 f)
@@ -76,7 +71,7 @@ is_opaque (Resource resource) e f = absurd (omega arith)
 is_opaque (Opaque bytes) e f = (bytes, (omega (arith, f.0, length-append (number 1 (length bytes)) bytes, length-number 1 (length bytes)), (omega (arith, f.0), f.1)), refl)
 is_opaque (Short n) e f = absurd (omega arith)
 
-opaque_laid : IsLayout Anything (HasCode 3) DestinationFits body opaque_at
+opaque_laid : IsLayout Anything (HasCode code_of 3) DestinationFits body opaque_at
 unfolding opaque_at code_of body
 opaque_laid = made (λ bytes. Opaque bytes) (vector_laid 1 opaque_bytes_laid)
     (λ bytes f. ((refl, tt), (omega (arith, f.0, length-append (number 1 (length bytes)) bytes, length-number 1 (length bytes)), f.1.1), refl)) (λ d k f. is_opaque d k.0 f)
@@ -88,7 +83,7 @@ is_short (Resource resource) high le e f = absurd (omega arith)
 is_short (Opaque bytes) high le e f = absurd (omega arith)
 is_short (Short n) high le e f = (n % 256, omega arith, ap Short (omega arith))
 
-short_laid : (high : ℕ) → 128 ≤ high → high < 256 → IsLayout Anything (HasCode high) DestinationFits body (short_at high)
+short_laid : (high : ℕ) → 128 ≤ high → high < 256 → IsLayout Anything (HasCode code_of high) DestinationFits body (short_at high)
 unfolding short_at code_of body
 short_laid high le lt = made (λ low. Short (high * 256 + low)) (number_laid 1)
     (λ low f. let e : (high * 256 + low) / 256 ≡ high = omega arith in let m : low ≡ (high * 256 + low) % 256 = omega arith in ((e, tt), (omega arith, omega arith), ap (number 1) m)) (λ d k f. is_short d high le k.0 f)
@@ -100,11 +95,7 @@ no_other (Resource resource) code low one two three e f = eqb-false code 2 two (
 no_other (Opaque bytes) code low one two three e f = eqb-false code 3 three (sym e)
 no_other (Short n) code low one two three e f = omega (arith, leb-false 128 code low, e, f.0)
 
--- under a code that is a number
-with_code : {code : ℕ} {read : Reader Destination} → (n : ℕ) → eqb code n ≡ true → IsLayout Anything (HasCode n) DestinationFits body read → IsLayout Anything (HasCode code) DestinationFits body read
-with_code {code} n is law = let e = eqb-true code n is in laid_as _ _ law (λ d k f. ((k.0 ∙ sym e, tt), f)) (λ d k f. ((k.0 ∙ e, tt), f))
-
-of_code : (place code : ℕ) → code < 256 → IsLayout Anything (HasCode code) DestinationFits body (destination_of place code)
+of_code : (place code : ℕ) → code < 256 → IsLayout Anything (HasCode code_of code) DestinationFits body (destination_of place code)
 unfolding destination_of
 of_code place code lt =
     chosen (leb 128 code) (λ high. short_laid code (leb-true 128 code high) lt) (λ low.

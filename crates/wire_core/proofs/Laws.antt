@@ -1,5 +1,6 @@
 -- A reader and a spelling that say the same: what is read is spelled so, and what is spelled so is read.
-use Rattle.std.proofs.Common.{◌≡◌, ℕ, ◌+◌, Bool, true, false, cond, List, [], ◌++◌, length, Result, Ok, Err, refl, sym, ap, subst, ◌∙◌, append_assoc, length-append, arith}
+use Rattle.std.proofs.Common.{◌≡◌, ℕ, ◌+◌, Bool, true, false, cond, eqb, List, [], ◌++◌, length, Result, Ok, Err, refl, sym, ap, subst, ◌∙◌, append_assoc, length-append, arith}
+use Rattle.std.proofs.lemmas.Bool.{eqb-true}
 use Rattle.wire_core.specs.declared.bad.Bad.{Bad}
 use Rattle.wire_core.specs.declared.bad.Reason.{Reason}
 use Rattle.wire_core.specs.Part.{Part, part}
@@ -164,3 +165,14 @@ made {A} {Y} {After} {Known} {Fits} {FitsA} {s} {spell} {read} make law there ba
       ap (λ r. and_then r (λ x. done (make x))) one ∙ ap (λ (z : Y). Ok (z, part (place + length (s b.0)) rest)) b.2 in
       subst (λ (t : List ℕ). and_then (read (part place (t ++ rest))) (λ x. done (make x)) ≡ Ok (y, part (place + length t) rest)) text two;
 }
+
+-- ---- a value that begins with a code
+
+-- its code is this one
+abbrev pub HasCode : {Y : Type 0} → (Y → ℕ) → ℕ → Y → Type 0
+HasCode code_of code y = (code_of y ≡ code) × Unit {0}
+
+-- under a code that is a number
+pub with_code : {Y : Type 0} {After : List ℕ → Type 0} {Fits : Y → Type 0} {body : Y → List ℕ} {code_of : Y → ℕ} {code : ℕ} {read : Reader Y} → (n : ℕ) → eqb code n ≡ true
+    → IsLayout After (HasCode code_of n) Fits body read → IsLayout After (HasCode code_of code) Fits body read
+with_code {code = code} n is law = let e = eqb-true code n is in laid_as _ _ law (λ y k f. ((k.0 ∙ sym e, tt), f)) (λ y k f. ((k.0 ∙ e, tt), f))

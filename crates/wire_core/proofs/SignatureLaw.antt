@@ -1,16 +1,16 @@
 -- A signature is read as it is spelled.
-use Rattle.std.proofs.Common.{◌≡◌, ℕ, ◌^◌, ◌<◌, true, false, eqb, List, [], ◌++◌, length, refl, sym, ap, subst, ◌∙◌, length-append, lit<, arith}
-use Rattle.std.proofs.lemmas.Bool.{eqb-true, eqb-false}
+use Rattle.std.proofs.Common.{◌≡◌, ℕ, ◌^◌, ◌<◌, false, eqb, List, [], ◌++◌, length, refl, sym, ap, subst, length-append, lit<, arith}
+use Rattle.std.proofs.lemmas.Bool.{eqb-false}
 use Rattle.std.proofs.lemmas.List.{append-nil}
 use Rattle.wire_core.specs.Spelling.{AreBytes, number, vector}
-use Rattle.wire_core.specs.Reading.{Reader, vector_at}
+use Rattle.wire_core.specs.Reading.{vector_at}
 use Rattle.wire_core.specs.declared.signature.Signature.{Signature}
 use Rattle.wire_core.specs.declared.signature.SignerIdentity.{SignerIdentity}
 use Rattle.wire_core.specs.declared.signature.SignerIdentity.TheVariants as signers
 use Rattle.wire_core.specs.Signature.{hash_part, identity, signature, IsSpelledIdentity, IsSpelledSignature, IsIdentityInRange, IsSignatureInRange, hash_at, cert_hash_at, cert_hash_node_id_at, no_identity_at, identity_of, identity_at, signature_at}
 use Rattle.wire_core.proofs.Bytes.{length-number}
 use Rattle.wire_core.specs.Layout.{Anything, Always, IsLayout}
-use Rattle.wire_core.proofs.Laws.{seq, done_laid, laid_as, fits_as, spelled_as, at_end, placed, chosen, refused_laid, made}
+use Rattle.wire_core.proofs.Laws.{HasCode, with_code, seq, done_laid, laid_as, fits_as, spelled_as, at_end, placed, chosen, refused_laid, made}
 use Rattle.wire_core.proofs.Words.{number_laid, vector_laid, rest_laid}
 
 abbrev pub IdentityFits : SignerIdentity → Type 0
@@ -23,10 +23,6 @@ code_of s = elim s [ signers.CertHash alg hash ↦ 1 | signers.CertHashNodeId al
 -- what is behind it
 body : SignerIdentity → List ℕ
 body s = elim s [ signers.CertHash alg hash ↦ hash_part alg hash | signers.CertHashNodeId alg hash ↦ hash_part alg hash | signers.None ↦ vector 2 [] ]
-
--- the identities that begin with this byte
-abbrev HasCode : ℕ → SignerIdentity → Type 0
-HasCode code s = (code_of s ≡ code) × Unit {0}
 
 body-code : (s : SignerIdentity) → number 1 (code_of s) ++ body s ≡ identity s
 unfolding identity code_of body
@@ -69,7 +65,7 @@ is_cert_hash (signers.CertHash alg hash) e f = let h : HashFits (alg, hash) = (f
 is_cert_hash (signers.CertHashNodeId alg hash) e f = absurd (omega arith)
 is_cert_hash signers.None e f = absurd (omega arith)
 
-cert_hash_laid : IsLayout Anything (HasCode 1) IdentityFits body cert_hash_at
+cert_hash_laid : IsLayout Anything (HasCode code_of 1) IdentityFits body cert_hash_at
 unfolding cert_hash_at code_of body
 cert_hash_laid = made (λ h. signers.CertHash h.0 h.1) part_laid (λ h f. ((refl, tt), (f.1.1.0, (f.1.0, f.1.1.1)), refl)) (λ s k f. is_cert_hash s k.0 f)
 
@@ -79,7 +75,7 @@ is_cert_hash_node_id (signers.CertHash alg hash) e f = absurd (omega arith)
 is_cert_hash_node_id (signers.CertHashNodeId alg hash) e f = let h : HashFits (alg, hash) = (f.1.0, (f.0, f.1.1)) in ((alg, hash), (roomy (alg, hash) h, h), refl)
 is_cert_hash_node_id signers.None e f = absurd (omega arith)
 
-cert_hash_node_id_laid : IsLayout Anything (HasCode 2) IdentityFits body cert_hash_node_id_at
+cert_hash_node_id_laid : IsLayout Anything (HasCode code_of 2) IdentityFits body cert_hash_node_id_at
 unfolding cert_hash_node_id_at code_of body
 cert_hash_node_id_laid = made (λ h. signers.CertHashNodeId h.0 h.1) part_laid (λ h f. ((refl, tt), (f.1.1.0, (f.1.0, f.1.1.1)), refl)) (λ s k f. is_cert_hash_node_id s k.0 f)
 
@@ -89,7 +85,7 @@ is_none (signers.CertHash alg hash) e = absurd (omega arith)
 is_none (signers.CertHashNodeId alg hash) e = absurd (omega arith)
 is_none signers.None e = refl
 
-no_identity_laid : IsLayout Anything (HasCode 3) IdentityFits body no_identity_at
+no_identity_laid : IsLayout Anything (HasCode code_of 3) IdentityFits body no_identity_at
 unfolding no_identity_at code_of body
 no_identity_laid =
     laid_as _ _ (spelled_as body (vector_laid 2 (laid_as Always (λ s. s ≡ signers.None) (done_laid {Known = λ s. s ≡ signers.None} signers.None refl (λ s k. k)) (λ s k f. (tt, k)) (λ s k f. (f, tt))))
@@ -102,11 +98,7 @@ no_other (signers.CertHash alg hash) code one two three e = eqb-false code 1 one
 no_other (signers.CertHashNodeId alg hash) code one two three e = eqb-false code 2 two (sym e)
 no_other signers.None code one two three e = eqb-false code 3 three (sym e)
 
--- under a code that is a number
-with_code : {code : ℕ} {read : Reader SignerIdentity} → (n : ℕ) → eqb code n ≡ true → IsLayout Anything (HasCode n) IdentityFits body read → IsLayout Anything (HasCode code) IdentityFits body read
-with_code {code} n is law = let e = eqb-true code n is in laid_as _ _ law (λ s k f. ((k.0 ∙ sym e, tt), f)) (λ s k f. ((k.0 ∙ e, tt), f))
-
-of_code : (place code : ℕ) → IsLayout Anything (HasCode code) IdentityFits body (identity_of place code)
+of_code : (place code : ℕ) → IsLayout Anything (HasCode code_of code) IdentityFits body (identity_of place code)
 unfolding identity_of
 of_code place code =
     chosen (eqb code 1) (λ one. with_code 1 one cert_hash_laid) (λ not_one.
