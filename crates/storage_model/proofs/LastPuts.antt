@@ -26,7 +26,7 @@ use Rattle.storage_model.specs.Verdict.{values_of, held_of, slot_of, unexpired, 
 use Rattle.storage_model.specs.Fetches.{held_in, found_of, gap, given_for}
 use Rattle.storage_model.specs.Decisions.{Decision, kinds_of, effect_of, effect_on, map_after, acting_from, IsSoundKinds, AreSound}
 use Rattle.storage_model.specs.Laws.{map_from, map_of, values_given, helds_given, last_held, last_put}
-use Rattle.storage_model.proofs.Lookups.{kind_in-put}
+use Rattle.storage_model.proofs.Lookups.{kind_in-put, stays_step}
 use Rattle.storage_model.proofs.Times.{either_nil}
 use Rattle.storage_model.proofs.Floors.{AreFew, are_few, put_all, gets}
 use Rattle.storage_model.proofs.Maps.{record_in-same, record_in-other}
@@ -143,10 +143,6 @@ kept_of-swept t (s ∷ slots) =
       | true ↦ refl
       | false ↦ kept_of-swept t slots
     ]
-
--- one more kind, which may leave
-stays_step : {X : Type 0} (leaves : ℕ → Bool) (j id : ℕ) (z f u v : X) → v ≡ cond (leaves id) z u → cond (leaves j) v (cond (eqb j id) f v) ≡ cond (leaves id) z (cond (eqb j id) f u)
-stays_step leaves j id z f u v e = grind (arith, nat_tests)
 
 -- nothing is held either way
 none_held : (b : Bool) → ◌≡◌ {A = Option Held} None (cond b None None)

@@ -59,8 +59,8 @@ floor_of-swept now key (s ∷ slots) =
     ]
 
 -- one more kind, which may leave
-stays_step : (leaves : ℕ → Bool) (j id f u v : ℕ) → v ≡ cond (leaves id) 0 u → cond (leaves j) v (cond (eqb j id) f v) ≡ cond (leaves id) 0 (cond (eqb j id) f u)
-stays_step leaves j id f u v e = grind (arith, nat_tests)
+pub stays_step : {X : Type 0} (leaves : ℕ → Bool) (j id : ℕ) (z f u v : X) → v ≡ cond (leaves id) z u → cond (leaves j) v (cond (eqb j id) f v) ≡ cond (leaves id) z (cond (eqb j id) f u)
+stays_step leaves j id z f u v e = grind (arith, nat_tests)
 
 -- no floor is 0
 none_zero : (b : Bool) (n : ℕ) → n ≡ 0 → n ≡ cond b 0 n
@@ -78,4 +78,4 @@ floor_in-swept now leaves id key (k ∷ kinds) =
       | true ↦ refl
       | false ↦ floor_at-cond (eqb k.kind id) (swept now k) (kind_in (map (swept now) rest) id) key ∙ ap (λ n. cond (eqb k.kind id) n (floor_in (map (swept now) rest) id key)) (floor_of-swept now key k.slots)
     ] in
-    this ∙ stays_step leaves k.kind id (floor_of k key) (floor_in kinds id key) (floor_in (map (swept now) rest) id key) (floor_in-swept now leaves id key kinds) ∙ ap (cond (leaves id) 0) (sym (floor_at-cond (eqb k.kind id) k (kind_in kinds id) key))
+    this ∙ stays_step leaves k.kind id 0 (floor_of k key) (floor_in kinds id key) (floor_in (map (swept now) rest) id key) (floor_in-swept now leaves id key kinds) ∙ ap (cond (leaves id) 0) (sym (floor_at-cond (eqb k.kind id) k (kind_in kinds id) key))

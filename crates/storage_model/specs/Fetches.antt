@@ -10,7 +10,6 @@ use Rattle.data_models.specs.declared.fetched.KindValues.TheVariants.{Known}
 use Rattle.data_models.specs.declared.fetched.StoreKind.{StoreKind}
 use Rattle.data_models.specs.Configs.{kind_of}
 use Rattle.storage_model.specs.declared.record.Held.{Held}
-use Rattle.storage_model.specs.declared.record.Slot.{Slot}
 use Rattle.storage_model.specs.declared.record.KindRecord.{KindRecord}
 use Rattle.storage_model.specs.declared.request.FetchAsked.{FetchAsked}
 use Rattle.storage_model.specs.declared.verdict.FetchVerdict.{FetchVerdict}
