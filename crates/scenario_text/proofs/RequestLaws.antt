@@ -1,15 +1,14 @@
 -- A line of a request is read exactly where it spells a Store or a Fetch.
-use Rattle.std.proofs.Common.{◌≡◌, ℕ, ◌-◌, ◌^◌, ◌==◌, ◌<◌, ◌&&◌, Bool, true, false, cond, List, [], ◌∷◌, ◌++◌, length, get_or, Option, Some, None, refl, sym, ap, subst, ◌∙◌, append_assoc, arith}
-use Rattle.std.specs.Prelude.{nat_le, option_map, IfSome}
+use Rattle.std.proofs.Common.{◌≡◌, ℕ, ◌-◌, ◌^◌, ◌==◌, ◌<◌, ◌&&◌, Bool, true, false, cond, List, [], ◌∷◌, ◌++◌, length, Option, Some, None, refl, sym, ap, subst, ◌∙◌, append_assoc, arith}
+use Rattle.std.specs.Prelude.{nat_le, IfSome}
 use Rattle.std.specs.Fmt.{decimal}
-use Rattle.std.specs.Int.{w128, from_be_bytes}
 use Rattle.std.specs.List.{list_all}
 use Rattle.std.specs.Result.{result_ok}
 use Rattle.std.proofs.lemmas.Bool.{and_parts, eqb-true, leb-true, le-leb}
 use Rattle.std.proofs.lemmas.List.{get_or_default, nil_from_length}
 use Rattle.std.proofs.lemmas.Option.{same_Some}
-use Rattle.hex.specs.Hex.{decode_of, decode_sized}
-use Rattle.hex.proofs.HexLemmas.{decode_of-ok, decode_sized-ok, decode_sized-twice}
+use Rattle.hex.specs.Hex.{decode_of}
+use Rattle.hex.proofs.HexLemmas.{decode_of-ok}
 use Rattle.text_words.specs.Steps.{allowed}
 use Rattle.text_words.specs.Decimal.{decimal_of}
 use Rattle.text_words.specs.Hex.{AllBytes, hex_of, is_lower_digit}
@@ -20,7 +19,7 @@ use Rattle.text_words.proofs.StepsLaws.{bind_some, allowed_some}
 use Rattle.text_words.proofs.SeparatorLaws.{behind-takes, behind-append, Lacks-cons, Lacks-head, upto-takes, upto-append, upto-lacks}
 use Rattle.text_words.proofs.DecimalLaws.{decimal_of-takes, decimal_of-decimal}
 use Rattle.text_words.proofs.HexLaws.{hex_of-takes, hex_of-encode_lower, when_takes, ok_from_some}
-use Rattle.text_words.proofs.IdLaws.{id_of-takes, id_of-id_text}
+use Rattle.text_words.proofs.IdLaws.{id_of-takes, id_of-below, id_of-id_text}
 use Rattle.text_words.proofs.NameLaws.{is_name-IsName}
 use Rattle.text_words.proofs.Lacking.{decimal-has_no, id_text-has_no, name-has_no}
 use Rattle.data_models.specs.declared.config.Config.{Config}
@@ -78,26 +77,6 @@ name_of-again name is = rw (behind-append (64 ∷ []) name, (is_name-IsName name
 name_of-digits : (id : ℕ) (found : Option (List ℕ)) → name_of (id_text id) ≡ found → found ≡ None
 name_of-digits id None e = refl
 name_of-digits id (Some name) e = absurd ((Lacks-head 64 64 name (subst (Lacks 64) (name_of-takes (id_text id) name e).0 (id_text-has_no 64 id refl))).0 refl)
-
--- what was mapped to a value
-map_some : {A B : Type 0} (f : A → B) (o : Option A) (y : B) → option_map f o ≡ Some y → (x : A) × (o ≡ Some x) × (f x ≡ y)
-map_some f None y e = cc
-map_some f (Some x) y e = (x, refl, same_Some (f x) y e)
-
--- sixteen bytes make a number of 128 bits
-from_be_bytes-below : (bytes : List ℕ) → ((k : ℕ) → get_or bytes k 0 < 256) → from_be_bytes w128 bytes < 2 ^ 128
-from_be_bytes-below bytes small =
-    omega (arith, small 0, small 1, small 2, small 3, small 4, small 5, small 6, small 7, small 8, small 9, small 10, small 11, small 12, small 13, small 14, small 15)
-
--- 32 digits are read as a number of 128 bits
-id_of-below : (word : List ℕ) (id : ℕ) → id_of word ≡ Some id → id < 2 ^ 128
-unfolding id_of
-id_of-below word id e =
-    let found = when_takes (list_all is_lower_digit word) (option_map (from_be_bytes w128) (result_ok (decode_sized word 16))) id e in
-    let read = map_some (from_be_bytes w128) (result_ok (decode_sized word 16)) id found.1 in
-    let sized = ok_from_some (decode_sized word 16) read.0 read.1 in
-    let parts = decode_of-ok word read.0 (sym (decode_sized-twice word 16 (decode_sized-ok word 16 read.0 sized)) ∙ sized) in
-    subst (λ (n : ℕ). n < 2 ^ 128) read.2 (from_be_bytes-below read.0 parts.3)
 
 by_name : (word : List ℕ) (found : Option (List ℕ)) (resource : ResourceName) → name_of word ≡ found → name_or_id word found ≡ Some resource → (word ≡ resource_word resource) × IsResource resource
 by_name word (Some name) resource found e =

@@ -1,5 +1,5 @@
 -- A word is read as a number below 2^128 exactly where it is its 32 digits.
-use Rattle.std.proofs.Common.{◌≡◌, ℕ, zero, suc, ◌+◌, ◌*◌, ◌/◌, ◌%◌, ◌^◌, ◌<◌, List, [], ◌∷◌, ◌++◌, length, take, drop, get_or, Option, Some, None, refl, sym, ap, ◌∙◌, arith}
+use Rattle.std.proofs.Common.{◌≡◌, ℕ, zero, suc, ◌+◌, ◌*◌, ◌/◌, ◌%◌, ◌^◌, ◌<◌, List, [], ◌∷◌, ◌++◌, length, take, drop, get_or, Option, Some, None, refl, sym, ap, subst, ◌∙◌, arith}
 use Rattle.std.specs.Prelude.{option_map, IfSome}
 use Rattle.std.specs.Int.{w64, w128, to_be_bytes, from_be_bytes, byte_at, bytes_high_first}
 use Rattle.std.specs.List.{list_all}
@@ -103,18 +103,39 @@ map_some : {A B : Type 0} (f : A → B) (o : Option A) (y : B) → option_map f 
 map_some f None y e = cc
 map_some f (Some x) y e = (x, refl, same_Some (f x) y e)
 
--- a word that is read as a number is its 32 digits
-pub id_of-takes : (word : List ℕ) (n : ℕ) → id_of word ≡ Some n → word ≡ id_text n
-unfolding id_of id_text
-id_of-takes word n e =
+-- a word that is read as a number: 32 digits of sixteen bytes, which make the number
+record IsRead (word : List ℕ) (n : ℕ) : Type 0 where
+  bytes : List ℕ
+  sixteen : length bytes ≡ 16
+  small : (k : ℕ) → get_or bytes k 0 < 256
+  spelled : word ≡ encode_lower bytes
+  number : from_be_bytes w128 bytes ≡ n
+
+id_of-read : (word : List ℕ) (n : ℕ) → id_of word ≡ Some n → IsRead word n
+unfolding id_of
+id_of-read word n e =
     let found = when_takes (list_all is_lower_digit word) (option_map (from_be_bytes w128) (result_ok (decode_sized word 16))) n e in
     let read = map_some (from_be_bytes w128) (result_ok (decode_sized word 16)) n found.1 in
     let sized = ok_from_some (decode_sized word 16) read.0 read.1 in
     let long = decode_sized-ok word 16 read.0 sized in
     let ok = sym (decode_sized-twice word 16 long) ∙ sized in
     let parts = decode_of-ok word read.0 ok in
-    let bytes = be_bytes_16 read.0 n (omega (arith, long, parts.2)) parts.3 read.2 in
-    decode_of-lower word read.0 found.0 ok ∙ ap encode_lower (sym bytes)
+    record { bytes = read.0; sixteen = omega (arith, long, parts.2); small = parts.3; spelled = decode_of-lower word read.0 found.0 ok; number = read.2 }
+
+-- it is the 32 digits of that number
+pub id_of-takes : (word : List ℕ) (n : ℕ) → id_of word ≡ Some n → word ≡ id_text n
+unfolding id_text
+id_of-takes word n e =
+    let x = id_of-read word n e in x.spelled ∙ ap encode_lower (sym (be_bytes_16 x.bytes n x.sixteen x.small x.number))
+
+-- sixteen bytes make a number of 128 bits
+sixteen_below : (bytes : List ℕ) → ((k : ℕ) → get_or bytes k 0 < 256) → from_be_bytes w128 bytes < 2 ^ 128
+sixteen_below bytes small =
+    omega (arith, small 0, small 1, small 2, small 3, small 4, small 5, small 6, small 7, small 8, small 9, small 10, small 11, small 12, small 13, small 14, small 15)
+
+-- which has 128 bits
+pub id_of-below : (word : List ℕ) (n : ℕ) → id_of word ≡ Some n → n < 2 ^ 128
+id_of-below word n e = let x = id_of-read word n e in subst (λ (m : ℕ). m < 2 ^ 128) x.number (sixteen_below x.bytes x.small)
 
 -- the 32 digits of a number are read as it
 pub id_of-id_text : (n : ℕ) → n < 2 ^ 128 → id_of (id_text n) ≡ Some n
