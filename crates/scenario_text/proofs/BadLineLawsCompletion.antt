@@ -63,7 +63,7 @@ kind = record { id = 1; model = Single; max_count = 1; max_size = 1 }
 
 is_kind : IsDeclaredKind kind
 unfolding kind
-is_kind = record { id = omega arith; model = refl; count = refl; size_from = omega arith; size_to = omega arith }
+is_kind = record { id = omega arith; model = refl; count = refl; limits = record { count_from = omega arith; count_to = omega arith; size_from = omega arith; size_to = omega arith } }
 
 kind_line-is : kind_line kind ≡ codes "kind 1 single user-match 1 1 0"
 unfolding kind kind_line text_of

@@ -58,7 +58,7 @@ kind_at-takes line kind e =
     let spelled : line ≡ text_of fixed.Kind ++ (decimal b.0.0 ++ 32 ∷ (text_of fixed.Model ++ (decimal d.0.0 ++ 32 ∷ decimal 0))) =
     cc (behind-takes (text_of fixed.Kind) line a.0 a.1, id.0, behind-takes (text_of fixed.Model) b.0.1 c.0 c.1, size.0, zero.1, none) in
     subst (λ (k : KindDef). (line ≡ kind_line k) × IsDeclaredKind k) (same_Some read kind z.2)
-    (spelled ∙ sym (kind_line-parts read), record { id = omega (arith, id.2); model = refl; count = refl; size_from = size.1; size_to = size.2 })
+    (spelled ∙ sym (kind_line-parts read), record { id = omega (arith, id.2); model = refl; count = refl; limits = record { count_from = omega arith; count_to = omega arith; size_from = size.1; size_to = size.2 } })
 
 pub kind_at-again : (kind : KindDef) → IsDeclaredKind kind → kind_at (kind_line kind) ≡ Some kind
 unfolding kind_at
@@ -66,8 +66,8 @@ kind_at-again kind is =
     let read : KindDef = record { id = kind.id; model = Single; max_count = 1; max_size = kind.max_size } in
     let same : read ≡ kind = λ i. record { id = kind.id; model = sym is.model i; max_count = sym is.count i; max_size = kind.max_size } in
     let id : kind.id < 2 ^ 32 = is.id in
-    let from : 1 ≤ kind.max_size = is.size_from in
-    let to : kind.max_size ≤ 140000 = is.size_to in
+    let from : 1 ≤ kind.max_size = is.limits.size_from in
+    let to : kind.max_size ≤ 140000 = is.limits.size_to in
     rw (
       kind_line-parts kind,
       behind-append (text_of fixed.Kind) (decimal kind.id ++ 32 ∷ (text_of fixed.Model ++ (decimal kind.max_size ++ 32 ∷ decimal 0))),

@@ -9,7 +9,7 @@ use Rattle.text_words.specs.Lines.{ended, lines_of, is_sound_line, is_passed_ove
 use Rattle.data_models.specs.declared.config.KindDef.{KindDef}
 use Rattle.data_models.specs.declared.config.Config.{Config}
 use Rattle.data_models.specs.declared.config.DataModel.TheVariants.{Single}
-use Rattle.data_models.specs.Configs.{kind_of}
+use Rattle.data_models.specs.Configs.{IsKind, kind_of}
 use Rattle.scenario_text.specs.declared.scenario.DeclaredNode.{DeclaredNode}
 use Rattle.scenario_text.specs.declared.scenario.Scenario.{Scenario}
 use Rattle.scenario_text.specs.declared.scenario.Event.{Event}
@@ -85,13 +85,12 @@ event_line s (Drain n) = drain_line n
 abbrev pub declaration_lines : Scenario → List (List ℕ)
 declaration_lines s = overlay_line s.config.name ∷ map kind_line s.config.kinds ++ node_line (text_of fixed.Peer) s.peer ∷ node_line (text_of fixed.Client) s.client ∷ []
 
--- the kinds that a scenario declares: single kinds with one slot
+-- the kinds that a scenario declares: single kinds with one slot, within the limits of each kind
 pub record IsDeclaredKind (kind : KindDef) : Type 0 where
   pub id : kind.id < 2 ^ 32
   pub model : kind.model ≡ Single
   pub count : kind.max_count ≡ 1
-  pub size_from : 1 ≤ kind.max_size
-  pub size_to : kind.max_size ≤ 140000
+  pub limits : IsKind kind
 
 -- a node's number, its Node-ID, which is neither all zeros nor all ones (RFC 6940, 6.3.1.1), and its user's name
 pub record IsDeclaredNode (node : DeclaredNode) : Type 0 where
