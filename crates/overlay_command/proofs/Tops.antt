@@ -36,14 +36,14 @@ one_word words x b seen fixed one is test same holds =
     rw (only_one words x one is) (ap (λ (word : List ℕ). word ∷ []) (sym same ∙ decides.0 (sym test ∙ holds)))
 
 -- a text is of one scenario at most
-one_scenario : (text : List ℕ) (s other : Scenario) → length text ≤ most_bytes → IsTextOf text s → IsTextOf text other → other ≡ s
-one_scenario text s other few is also =
-    let same : ◌≡◌ {A = Result Scenario ℕ} (Ok other) (Ok s) = sym (reading-again text (omega arith) other also) ∙ reading-again text (omega arith) s is in
+one_scenario : (text : List ℕ) (s other : Scenario) → IsTextOf text s → IsTextOf text other → other ≡ s
+one_scenario text s other is also =
+    let same : ◌≡◌ {A = Result Scenario ℕ} (Ok other) (Ok s) = sym (reading-again text other also) ∙ reading-again text s is in
     cc
 
 -- the transcript of a scenario is due for its text
 pub run_due : (text : List ℕ) (s : Scenario) → length text ≤ most_bytes → IsTextOf text s → IsDue Run Done text (transcript s)
-run_due text s few is = (few, s, record { spells = is; only = λ other also. one_scenario text s other few is also; written = refl; legal = run_is_legal s; once = run_is_once s; in_time = run_in_time s; gives = run_gives s; gives_then = run_gives_then s })
+run_due text s few is = (few, s, record { spells = is; only = λ other also. one_scenario text s other is also; written = refl; legal = run_is_legal s; once = run_is_once s; in_time = run_in_time s; gives = run_gives s; gives_then = run_gives_then s })
 
 -- lines were written whole, or a part of them
 told_cases : (told : Status) (old new : Option (List ℕ)) (lines : List ℕ) (status : Status) → IsToldBy told old new lines status

@@ -1,5 +1,5 @@
 -- The bad line that is named is the first that is outside the grammar.
-use Rattle.std.proofs.Common.{◌≡◌, ℕ, ◌+◌, ◌-◌, ◌^◌, ◌==◌, ◌<◌, Bool, true, false, cond, List, [], ◌∷◌, ◌++◌, length, take, Option, Some, None, Result, Ok, Err, refl, sym, ap, subst, ◌∙◌, append_assoc, inl, inr, arith}
+use Rattle.std.proofs.Common.{◌≡◌, ℕ, ◌+◌, ◌-◌, ◌==◌, Bool, true, false, cond, List, [], ◌∷◌, ◌++◌, length, take, Option, Some, None, Result, Ok, Err, refl, sym, ap, subst, ◌∙◌, append_assoc, inl, inr, arith}
 use Rattle.std.specs.Prelude.{◌⊎◌}
 use Rattle.std.specs.List.{flat_map, All}
 use Rattle.std.proofs.lemmas.List.{append-nil, length-append, take_at, take_all}
@@ -163,9 +163,9 @@ unfolding reading reading_on
 ended_badly text n e = whole_err (1 + length (lines_of text).0) (lines_of text).1 (reading_from draft.Empty 1 (lines_of text).0) n e
 
 -- the bad line that is named is the first
-pub reading-bad : (text : List ℕ) → length text < 2 ^ 63 → (n : ℕ) → reading text ≡ Err n → IsFirstBad text n
-reading-bad text short n e =
-    let none : (s : Scenario) → IsTextOf text s → ⊥ = λ s is. ok_isnt_err s n (sym (reading-again text short s is) ∙ e) in
+pub reading-bad : (text : List ℕ) (n : ℕ) → reading text ≡ Err n → IsFirstBad text n
+reading-bad text n e =
+    let none : (s : Scenario) → IsTextOf text s → ⊥ = λ s is. ok_isnt_err s n (sym (reading-again text s is) ∙ e) in
     elim (ended_badly text n e) [
       | inl stopped ↦ bad_at_line text n none (stops draft.Empty 1 (lines_of text).0 n stopped)
       | inr (last, read, at) ↦ bad_behind text n last none read at

@@ -1,5 +1,5 @@
 -- A text is read as a scenario exactly where it is the scenario's text.
-use Rattle.std.proofs.Common.{◌≡◌, ℕ, ◌+◌, ◌^◌, ◌==◌, ◌<◌, Bool, true, false, cond, List, [], ◌∷◌, ◌++◌, length, map, drop, Result, Ok, Err, refl, sym, ap, subst, ◌∙◌}
+use Rattle.std.proofs.Common.{◌≡◌, ℕ, ◌+◌, ◌==◌, Bool, true, false, cond, List, [], ◌∷◌, ◌++◌, length, map, drop, Result, Ok, Err, refl, sym, ap, subst, ◌∙◌}
 use Rattle.std.proofs.lemmas.Bool.{eqb-true}
 use Rattle.std.proofs.lemmas.List.{append-nil, nil_from_length}
 use Rattle.text_words.specs.Lines.{lines_of}
@@ -61,17 +61,17 @@ whole_ok n rest (Ok so_far) s e = let found = by_rest (length rest == 0) refl e 
     by_rest false none e = cc
 
 -- a text that is read as a scenario is its text
-pub reading-takes : (text : List ℕ) → length text < 2 ^ 63 → (s : Scenario) → reading text ≡ Ok s → IsTextOf text s
+pub reading-takes : (text : List ℕ) (s : Scenario) → reading text ≡ Ok s → IsTextOf text s
 unfolding reading reading_on
-reading-takes text short s e =
+reading-takes text s e =
     let read = whole_ok (1 + length (lines_of text).0) (lines_of text).1 (reading_from draft.Empty 1 (lines_of text).0) s e in
     let says = lines-say (lines_of text).0 s read.1 in
     record { scenario = says.0; whole = read.0; says = says.1 }
 
 -- the text of a scenario is read as it
-pub reading-again : (text : List ℕ) → length text < 2 ^ 63 → (s : Scenario) → IsTextOf text s → reading text ≡ Ok s
+pub reading-again : (text : List ℕ) (s : Scenario) → IsTextOf text s → reading text ≡ Ok s
 unfolding reading reading_on
-reading-again text short s is =
+reading-again text s is =
     let read = front-reads (lines_of text).0 [] s is.scenario (subst (λ (lines : List (List ℕ)). Say lines s) (sym (append-nil (lines_of text).0)) is.says) in
     let all = read.2 refl in
     ap (whole_or_bad (1 + length (lines_of text).0) (lines_of text).1) (read.1 ∙ ap Ok all) ∙ ap (λ (rest : List ℕ). whole_or_bad (1 + length (lines_of text).0) rest (Ok (draft.Open s))) is.whole
