@@ -1,5 +1,6 @@
 -- What is added of the frame in front.
 use Rattle.std.proofs.Common.{◌≡◌, ℕ, ◌+◌, ◌<◌, inl, inr, List, [], ◌++◌, length, drop, Err, refl, sym, ap, append-nil, length-append, arith}
+use Rattle.wire_core.specs.declared.bad.Bad.{Bad}
 use Rattle.wire_core.specs.declared.bad.DecodeFault.{DecodeFault}
 use Rattle.wire_core.specs.declared.bad.DecodeFault.TheVariants as faults
 use Rattle.link_framing.specs.declared.frame.Frame.{Frame}
@@ -7,9 +8,8 @@ use Rattle.link_framing.specs.Framing.{frame, IsFrame}
 use Rattle.frame_listing.specs.Fronts.{IsNext, AddsFrame, AddsFront}
 
 -- there is none
-pub no_front : (fault : DecodeFault) (place : ℕ) (rest out : List ℕ) → IsNext (Err fault) place rest → AddsFront (Err fault) place rest out out
-no_front (faults.Bad fault) place rest out is = ([], inr (is, refl), sym (append-nil out))
-no_front faults.NoMemory place rest out is = tt
+pub no_front : (fault : Bad) (place : ℕ) (rest out : List ℕ) → IsNext (Err fault) place rest → AddsFront (Err (faults.Bad fault)) place rest out out
+no_front fault place rest out is = ([], inr (is, refl), sym (append-nil out))
 
 -- its message has a fault
 pub bad_front : (fault : DecodeFault) (place : ℕ) (f : Frame) (rest later old new : List ℕ) → IsFrame f → rest ≡ frame f ++ later → AddsFrame (Err fault) place f old new → AddsFront (Err fault) place rest old new

@@ -1,16 +1,18 @@
 -- What a step of a listing adds: that of the frame in front of what is left of a stream.
 use Rattle.std.specs.Prelude.{◌≡◌, ℕ, List, ◌++◌, length, drop, Result, Ok, Err}
+use Rattle.wire_core.specs.declared.bad.Bad.{Bad}
 use Rattle.wire_core.specs.declared.bad.DecodeFault.{DecodeFault}
 use Rattle.wire_core.specs.declared.bad.DecodeFault.TheVariants as faults
 use Rattle.link_framing.specs.declared.frame.Frame.{Frame}
+use Rattle.link_framing.specs.declared.frame.FrameView.{FrameView}
+use Rattle.link_framing.specs.Views.{seen}
 use Rattle.link_framing.specs.Framing.{frame, IsFrame}
 use Rattle.frame_listing.specs.Listing.{IsListedAs, IsMessageFault, IsNoFrame, IsFault}
 
 -- the frame in front and the number of its bytes, or the fault that there is none
-abbrev pub IsNext : Result (Frame × ℕ) DecodeFault → ℕ → List ℕ → Type 0
-IsNext (Ok found) place rest = IsFrame found.0 × (found.1 ≡ length (frame found.0)) × (rest ≡ frame found.0 ++ drop found.1 rest)
-IsNext (Err (faults.Bad fault)) place rest = IsNoFrame place rest fault
-IsNext (Err faults.NoMemory) place rest = Unit {0}
+abbrev pub IsNext : Result (FrameView × ℕ) Bad → ℕ → List ℕ → Type 0
+IsNext (Ok found) place rest = IsFrame (seen found.0) × (found.1 ≡ length (frame (seen found.0))) × (rest ≡ frame (seen found.0) ++ drop found.1 rest)
+IsNext (Err fault) place rest = IsNoFrame place rest fault
 
 -- the lines of a frame were added, or those before the fault of its message
 abbrev pub AddsFrame : Result (Unit {0}) DecodeFault → ℕ → Frame → List ℕ → List ℕ → Type 0

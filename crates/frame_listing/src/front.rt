@@ -2,35 +2,30 @@
 
 ghost use Rattle.std.specs.Prelude.{◌≡◌, ◌≢◌, ◌+◌, ◌<◌, ◌^◌, ◌++◌, [], length};
 ghost use Rattle.link_framing.specs.Framing.{frame};
+ghost use Rattle.link_framing.specs.Views.{seen};
 ghost use Rattle.link_framing.specs.declared.frame.Frame.TheVariants.{Payload};
 ghost use Rattle.frame_listing.specs.Fronts.{IsNext, AddsFrame, AddsFront};
 
 use crate::lines::{put_ack_line, put_message_line, put_payload_line};
 use forwarding_header::decode_header;
-use link_framing::{Frame, FrameFault, first_frame};
+use link_framing::{FrameView, first_frame};
 use reload_base::Bytes;
 use std::alloc::Global;
 use wire_core::{Bad, DecodeFault, Reason};
 
-// A fault at a place of the stream.
-fn fault_at<T>(place: u64, reason: Reason) -> Result<T, DecodeFault>
-    ensures { result ≡ Err (DecodeFault.Bad (record { place = place; reason = reason })) }
-{
-    Err(DecodeFault::Bad(Bad { place, reason }))
-}
-
-// The frame in front, which stands at a place, and the number of its bytes.
-fn next_frame(alloc: Global, rest: &[u8], place: u64) -> Result<(Frame, usize), DecodeFault>
+// The frame in front, which stands at a place, and the number of its bytes. Less than a frame is short at the end.
+fn next_frame(rest: &[u8], place: u64) -> Result<(FrameView<'_>, usize), Bad>
     requires small { place + length rest.now < 2 ^ 63 }
     requires some { rest.now ≢ [] }
     ensures { IsNext result place rest.now }
 {
-    match first_frame(alloc, rest, place) {
+    match first_frame(rest, place) {
         Ok(Some(found)) => Ok(found),
-        Ok(None) => fault_at(place + rest.len() as u64, Reason::Short),
-        Err(FrameFault::BadType(at)) => fault_at(at, Reason::BadValue),
-        Err(FrameFault::TooLarge(at)) => fault_at(at, Reason::TooLarge),
-        Err(FrameFault::NoMemory) => Err(DecodeFault::NoMemory),
+        Ok(None) => Err(Bad {
+            place: place + rest.len() as u64,
+            reason: Reason::Short,
+        }),
+        Err(bad) => Err(bad),
     }
 }
 
@@ -48,21 +43,31 @@ fn put_payload(
     put_payload_line(out, place, sequence, message.len() as u64)?;
     match decode_header(alloc, message) {
         Ok((header, _)) => Ok(put_message_line(out, &header)?),
-        Err(DecodeFault::Bad(bad)) => fault_at(place + 8 + bad.place, bad.reason),
+        Err(DecodeFault::Bad(bad)) => Err(DecodeFault::Bad(Bad {
+            place: place + 8 + bad.place,
+            reason: bad.reason,
+        })),
         Err(DecodeFault::NoMemory) => Err(DecodeFault::NoMemory),
     }
 }
 
 // Adds the lines of a frame that stands at a place.
-fn put_frame(alloc: Global, out: &mut Bytes, place: u64, first: &Frame) -> Result<(), DecodeFault>
-    requires { place + length (frame first.now) < 2 ^ 63 }
-    ensures { AddsFrame result place first.now out.old out.new }
+fn put_frame(
+    alloc: Global,
+    out: &mut Bytes,
+    place: u64,
+    first: &FrameView<'_>,
+) -> Result<(), DecodeFault>
+    requires { place + length (frame (seen first.now)) < 2 ^ 63 }
+    ensures { AddsFrame result place (seen first.now) out.old out.new }
 {
     match first {
-        Frame::Payload { sequence, message } => {
-            put_payload(alloc, out, place, *sequence, message.as_slice())
+        FrameView::Payload { sequence, message } => {
+            put_payload(alloc, out, place, *sequence, message)
         }
-        Frame::Ack { sequence, received } => Ok(put_ack_line(out, place, *sequence, *received)?),
+        FrameView::Ack { sequence, received } => Ok(put_ack_line(
+            out, place, *sequence, *received,
+        )?),
     }
 }
 
@@ -78,7 +83,7 @@ pub(crate) fn put_front(
     requires some { rest.now ≢ [] }
     ensures { AddsFront result place rest.now out.old out.new }
 {
-    let (first, len) = next_frame(alloc, rest, place)?;
+    let (first, len) = next_frame(rest, place)?;
     put_frame(alloc, out, place, &first)?;
     Ok(len)
 }

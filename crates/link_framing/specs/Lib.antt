@@ -3,3 +3,4 @@ pub mod Finds
 pub mod Framing
 pub mod Reading
 pub mod Streams
+pub mod Views

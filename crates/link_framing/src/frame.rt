@@ -2,6 +2,7 @@
 
 ghost use Rattle.std.specs.Prelude.{◌≡◌, ◌++◌, IfOk, OnOk};
 ghost use Rattle.link_framing.specs.Framing.{frame, IsWithin};
+ghost use Rattle.link_framing.specs.Views.{seen};
 
 use reload_base::{Bytes, NoMemory};
 use std::alloc::Global;
@@ -14,6 +15,33 @@ pub enum Frame {
     Payload { sequence: u32, message: Bytes },
     /// Says that the payload of this sequence was heard. `received` marks those of the 31 before it that were.
     Ack { sequence: u32, received: u32 },
+}
+
+/// A frame as it lies in bytes, which lend its message.
+#[derive(Clone, Copy, Debug)]
+pub enum FrameView<'a> {
+    /// A message of at most 262,144 bytes.
+    Payload { sequence: u32, message: &'a [u8] },
+    /// Says which payloads were heard, as `Frame::Ack` does.
+    Ack { sequence: u32, received: u32 },
+}
+
+impl<'a> FrameView<'a> {
+    /// The frame, with a copy of its message.
+    pub fn to_frame(&self, alloc: Global) -> Result<Frame, NoMemory>
+        ensures { IfOk result (λ f. f ≡ seen self.now) }
+    {
+        match self {
+            FrameView::Payload { sequence, message } => Ok(Frame::Payload {
+                sequence: *sequence,
+                message: Bytes::from_slice(alloc, message)?,
+            }),
+            FrameView::Ack { sequence, received } => Ok(Frame::Ack {
+                sequence: *sequence,
+                received: *received,
+            }),
+        }
+    }
 }
 
 /// Why a stream gives no frame.

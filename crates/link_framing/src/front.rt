@@ -1,39 +1,44 @@
 //! What stands at the front of a stream.
 
-ghost use Rattle.std.specs.Prelude.{◌≡◌, ◌+◌, ◌^◌, ◌<◌, ℕ, List, length, slice_index};
-ghost use Rattle.link_framing.specs.Finds.{Finds, Says};
+ghost use Rattle.std.specs.Prelude.{Err, ◌≡◌, ◌+◌, ◌^◌, ◌<◌, ℕ, List, length, slice_index};
+ghost use Rattle.link_framing.specs.Finds.{Finds, Given, Says};
 ghost use Rattle.link_framing.specs.Streams.{IsMissing, wanted, least_whole, length_in, least_message};
 
-use crate::frame::{Frame, FrameFault};
+use crate::frame::{FrameFault, FrameView};
 use crate::layout::take_frame;
-use std::alloc::Global;
-use wire_core::{Bad, Cursor, DecodeFault, Reason};
+use wire_core::{Bad, Cursor, Reason};
 
-/// The frame at the front of bytes, the first of which stands at a place of the stream, and how many bytes it has.
-pub fn first_frame(
-    alloc: Global,
-    bytes: &[u8],
-    place: u64,
-) -> Result<Option<(Frame, usize)>, FrameFault>
+/// The frame at the front of bytes, the first of which stands at a place of the stream, and how many bytes it has. None
+/// where they are less than a frame. The fault is `BadValue` at a first byte that begins no frame, or `TooLarge` at a
+/// length over 262,144. No memory is taken.
+pub fn first_frame(bytes: &[u8], place: u64) -> Result<Option<(FrameView<'_>, usize)>, Bad>
     requires { place + length bytes.now < 2 ^ 63 }
     ensures { Finds result place bytes.now }
 {
     let mut from = Cursor::new(bytes, place);
-    match take_frame(alloc, &mut from) {
+    match take_frame(&mut from) {
         Ok(frame) => Ok(Some((frame, bytes.len() - from.len()))),
-        Err(DecodeFault::NoMemory) => Err(FrameFault::NoMemory),
-        Err(DecodeFault::Bad(bad)) => told(bad),
+        Err(bad) => told(bad),
     }
 }
 
 /// What a fault of the reading means: bytes are missing, or the stream's next frame can't come.
-fn told(bad: Bad) -> Result<Option<(Frame, usize)>, FrameFault>
+fn told<'a>(bad: Bad) -> Result<Option<(FrameView<'a>, usize)>, Bad>
     ensures { (place : ℕ) → (bytes : List ℕ) → Says place bytes bad.place bad.reason → Finds result place bytes }
 {
     match bad.reason {
         Reason::Short | Reason::LengthPast => Ok(None),
-        Reason::TooLarge => Err(FrameFault::TooLarge(bad.place)),
-        Reason::BadValue | Reason::Trailing => Err(FrameFault::BadType(bad.place)),
+        Reason::TooLarge | Reason::BadValue | Reason::Trailing => Err(bad),
+    }
+}
+
+/// The same fault as a reader of frames answers it.
+pub(crate) fn lasting(bad: Bad) -> FrameFault
+    ensures { (place : ℕ) → (bytes : List ℕ) → Finds (Err bad) place bytes → Given (Err result) place bytes }
+{
+    match bad.reason {
+        Reason::TooLarge => FrameFault::TooLarge(bad.place),
+        _ => FrameFault::BadType(bad.place),
     }
 }
 

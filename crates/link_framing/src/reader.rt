@@ -6,7 +6,7 @@ ghost use Rattle.wire_core.specs.Part.{end_of, behind};
 ghost use Rattle.link_framing.specs.Streams.{IsPartial, IsBadType, IsTooLarge, IsMissing, Takes, fed, nothing, wanted};
 
 use crate::frame::{Frame, FrameFault};
-use crate::front::{first_frame, wanted_by};
+use crate::front::{first_frame, lasting, wanted_by};
 use reload_base::NoMemory;
 use std::alloc::Global;
 use std::marker::Model;
@@ -78,13 +78,14 @@ impl FrameReader {
         ensures too_large { (place : ℕ) → (result ≡ Err (FrameFault.TooLarge place))
             ↔ (IsTooLarge self.old.bytes × (place ≡ self.old.place + 5)) }
     {
-        match first_frame(self.allocator(), self.held(), self.place()) {
-            Ok(Some((frame, len))) => {
+        match first_frame(self.held(), self.place()) {
+            Ok(Some((view, len))) => {
+                let frame = view.to_frame(self.allocator())?;
                 self.pass(len);
                 Ok(Some(frame))
             }
             Ok(None) => Ok(None),
-            Err(fault) => Err(fault),
+            Err(bad) => Err(lasting(bad)),
         }
     }
 
