@@ -1,5 +1,2 @@
-pub mod DestinationLaw
 pub mod HeaderLaw
 pub mod Messages
-pub mod OptionLaw
-pub mod Places

@@ -2,15 +2,19 @@
 use Rattle.std.specs.Prelude.{ℕ, ◌+◌, ◌*◌, ◌<◌, ◌≤◌, ◌^◌, ◌==◌, List, ◌++◌, length, nat_le, if◌then◌else◌}
 use Rattle.std.specs.List.{flat_map}
 use Rattle.wire_core.specs.declared.bad.Reason.TheVariants.{BadValue}
-use Rattle.wire_core.specs.Spelling.{AreBytes, number, vector, id}
-use Rattle.wire_core.specs.Reading.{Reader, ◌>>=◌, ◌>>◌, done, refused, allowed, place_at, left_at, rest_at, number_at, vector_at, sized_at, id_at}
+use Rattle.wire_core.specs.Spelling.{AreBytes, number, vector}
+use Rattle.reload_ids.specs.declared.TheConstants.{ID_LENGTH}
+use Rattle.wire_core.specs.declared.limits.TheConstants.{RESOURCE_ID_LENGTH}
+use Rattle.wire_core.specs.Ids.{node_id, resource_id, IsNodeIdInRange, IsResourceIdInRange, node_id_at, resource_id_at}
+use Rattle.wire_core.specs.Reading.{Reader, ◌>>=◌, ◌>>◌, done, refused, allowed, place_at, left_at, rest_at, number_at, vector_at, sized_at}
+use Rattle.forwarding_header.specs.declared.destination.TheConstants.{MAX_OPAQUE, SHORT}
 use Rattle.forwarding_header.specs.declared.destination.Destination.{Destination}
 use Rattle.forwarding_header.specs.declared.destination.Destination.TheVariants.{Node, Resource, Opaque, Short}
 
--- a destination's bytes (RFC 6940, 6.3.2.2; a node's id has 16 bytes)
+-- a destination's bytes (RFC 6940, 6.3.2.2)
 unfoldable pub destination : Destination → List ℕ
-destination (Node node) = number 1 1 ++ (number 1 16 ++ number 16 node.0)
-destination (Resource resource) = number 1 2 ++ (number 1 17 ++ id resource.0)
+destination (Node node) = number 1 1 ++ vector 1 (node_id node)
+destination (Resource resource) = number 1 2 ++ vector 1 (resource_id resource)
 destination (Opaque bytes) = number 1 3 ++ vector 1 (vector 1 bytes)
 destination (Short n) = number 2 n
 
@@ -18,17 +22,18 @@ destination (Short n) = number 2 n
 abbrev pub destinations : List Destination → List ℕ
 destinations ds = flat_map destination ds
 
--- Opaque bytes leave room for the length within the length. A short destination has its top bit set.
+-- Opaque bytes leave room for the length within the length. A short destination has its top bit
+-- set.
 abbrev pub IsSpelledDestination : Destination → Type 0
 IsSpelledDestination (Node node) = Unit {0}
 IsSpelledDestination (Resource resource) = Unit {0}
-IsSpelledDestination (Opaque bytes) = length bytes < 255
-IsSpelledDestination (Short n) = 2 ^ 15 ≤ n
+IsSpelledDestination (Opaque bytes) = length bytes ≤ MAX_OPAQUE
+IsSpelledDestination (Short n) = SHORT ≤ n
 
 -- each number fits its field
 abbrev pub IsDestinationInRange : Destination → Type 0
-IsDestinationInRange (Node node) = node.0 < 2 ^ 128
-IsDestinationInRange (Resource resource) = resource.0 < 2 ^ 128
+IsDestinationInRange (Node node) = IsNodeIdInRange node
+IsDestinationInRange (Resource resource) = IsResourceIdInRange resource
 IsDestinationInRange (Opaque bytes) = AreBytes bytes
 IsDestinationInRange (Short n) = n < 2 ^ 16
 
@@ -41,17 +46,17 @@ opaque_bytes_at = do
   allowed (len == left) place BadValue
   rest_at
 
--- a node behind its code: the length 16, and 16 bytes
+-- a node behind its code: its length, any other of which is a bad value, and its id
 unfoldable pub node_at : Reader Destination
 node_at = do
-  node ← sized_at 1 16 (number_at 16)
-  done (Node (record { 0 = node }))
+  node ← sized_at 1 ID_LENGTH node_id_at
+  done (Node node)
 
--- a resource behind its code: the length 17, and an id behind its own length
+-- the same for a resource
 unfoldable pub resource_at : Reader Destination
 resource_at = do
-  resource ← sized_at 1 17 id_at
-  done (Resource (record { 0 = resource }))
+  resource ← sized_at 1 RESOURCE_ID_LENGTH resource_id_at
+  done (Resource resource)
 
 -- opaque bytes behind their code: a length that is one more than theirs
 unfoldable pub opaque_at : Reader Destination
@@ -69,7 +74,10 @@ short_at high = do
 unfoldable pub destination_of : ℕ → ℕ → Reader Destination
 destination_of place code =
     if nat_le 128 code then short_at code
-    else (if code == 1 then node_at else (if code == 2 then resource_at else (if code == 3 then opaque_at else refused place BadValue)))
+    else (if code == 1 then node_at
+    else (if code == 2 then resource_at
+    else (if code == 3 then opaque_at
+    else refused place BadValue)))
 
 -- a destination
 unfoldable pub destination_at : Reader Destination

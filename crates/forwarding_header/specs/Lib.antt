@@ -1,3 +1,4 @@
 pub mod Destinations
 pub mod Header
+pub mod Laws
 pub mod Options

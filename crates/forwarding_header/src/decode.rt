@@ -3,7 +3,7 @@
 ghost use Rattle.std.specs.Prelude.{◌≡◌, ◌≤◌, ◌++◌, List, ℕ, [], length, IfOk, Ok, Err};
 ghost use Rattle.wire_core.specs.declared.bad.Bad.{Bad};
 ghost use Rattle.wire_core.specs.declared.bad.DecodeFault.TheVariants as faults;
-ghost use Rattle.wire_core.specs.Layout.{Anything, Always, IsLayout};
+ghost use Rattle.wire_core.specs.Layout.{IsLayout};
 ghost use Rattle.wire_core.specs.Reading.{Gives};
 ghost use Rattle.forwarding_header.specs.Destinations.{destination, destination_at, IsSpelledDestination, IsDestinationInRange};
 ghost use Rattle.forwarding_header.specs.Options.{option, option_at, IsSpelledOption, IsOptionInRange};
@@ -28,7 +28,8 @@ pub fn decode_header(alloc: Global, message: &[u8]) -> Result<(Header, usize), D
     // What is read is the message's header.
     ensures found { IfOk result (λ x. IsMessage x.0 message.now × (x.1 ≡ length (header x.0))) }
     // The header of a message is read, unless memory runs out.
-    ensures only { (h : Header) → IsMessage h message.now → Gives result (Ok (h, length (header h))) }
+    ensures only { (h : Header) → IsMessage h message.now
+        → Gives result (Ok (h, length (header h))) }
     // Which fault it is.
     ensures exact { Gives result (message_at message.now) }
     // A fault lies in the message, or at its end.
@@ -45,6 +46,7 @@ pub fn one_form()
 
 /// Destinations and options are read as they are spelled, and nothing else is.
 pub fn entries_are_layouts()
-    ensures destinations { IsLayout Anything Always (λ d. IsSpelledDestination d × IsDestinationInRange d) destination destination_at }
-    ensures options { IsLayout Anything Always (λ o. IsSpelledOption o × IsOptionInRange o) option option_at }
+    ensures destinations { IsLayout (λ d. IsSpelledDestination d × IsDestinationInRange d)
+        destination destination_at }
+    ensures options { IsLayout (λ o. IsSpelledOption o × IsOptionInRange o) option option_at }
 {}

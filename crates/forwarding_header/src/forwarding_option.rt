@@ -1,14 +1,16 @@
 //! Options that nodes on the way look at.
 
-ghost use Rattle.std.specs.Prelude.{◌≡◌, ◌↔◌, ◌-◌, ◌^◌, ◌≤◌, ◌++◌, IsTrue, OnOk, length, min};
+ghost use Rattle.std.specs.Prelude.{◌≡◌, ◌↔◌, ◌-◌, ◌^◌, ◌≤◌, ◌++◌, IsTrue, OnOk, OnErr, length, min, take};
 ghost use Rattle.wire_core.specs.Reading.{Decodes};
-ghost use Rattle.forwarding_header.specs.Options.{option, option_at, IsSpelledOption};
+ghost use Rattle.forwarding_header.specs.Options.{option, option_at, IsSpelledOption, IsOptionInRange};
+ghost use Rattle.forwarding_header.specs.Laws.Options.{option_laid, option-some};
 
 use reload_base::{Bytes, NoMemory, TryCopy};
 use std::alloc::Global;
-use wire_core::{Cursor, DecodeFault, Layout, put_bytes, put_u8, take_bytes};
+use wire_core::{Cursor, DecodeFault, Layout, Spell, put_bytes, put_u8, take_bytes};
 
-/// An option of a header (RFC 6940, section 6.3.2.3). No code is known here, so each is kept as it stands.
+/// An option of a header (RFC 6940, section 6.3.2.3). No code is known here, so each is kept as it
+/// stands.
 #[derive(Debug, Drop)]
 pub struct ForwardingOption {
     pub code: u8,
@@ -27,10 +29,32 @@ impl TryCopy for ForwardingOption {
     }
 }
 
-impl Layout for ForwardingOption {
+impl Spell for ForwardingOption {
     ghost spelling = { option };
 
     ghost is_spelled = { IsSpelledOption };
+
+    fn fits(&self) -> bool {
+        self.value.len() < 0x1_0000
+    }
+
+    #[tactic(auto, using(wire_core::proofs::Puts::lengths), unfolding(crate::specs::Options::option))]
+    fn len(&self) -> u64 {
+        (self.value.len() as u64).saturating_add(4)
+    }
+
+    #[tactic(auto, using(wire_core::proofs::Puts::fronts), unfolding(crate::specs::Options::option))]
+    fn put(&self, out: &mut Bytes) -> Result<(), NoMemory> {
+        put_u8(out, self.code)?;
+        put_u8(out, self.flags)?;
+        put_bytes(out, 2, self.value.as_slice())
+    }
+
+    ghost has_a_byte = { λ o _. option-some o };
+}
+
+impl Layout for ForwardingOption {
+    ghost in_range = { IsOptionInRange };
 
     ghost reading = { option_at };
 
@@ -42,19 +66,5 @@ impl Layout for ForwardingOption {
         Ok(ForwardingOption { code, flags, value })
     }
 
-    fn fits(&self) -> bool {
-        self.value.len() < 0x1_0000
-    }
-
-    #[tactic(auto, using(wire_core::proofs::Bytes::lengths), unfolding(crate::specs::Options::option))]
-    fn len(&self) -> u64 {
-        (self.value.len() as u64).saturating_add(4)
-    }
-
-    #[tactic(auto, unfolding(crate::specs::Options::option))]
-    fn put(&self, out: &mut Bytes) -> Result<(), NoMemory> {
-        put_u8(out, self.code)?;
-        put_u8(out, self.flags)?;
-        put_bytes(out, 2, self.value.as_slice())
-    }
+    ghost is_layout = { option_laid };
 }

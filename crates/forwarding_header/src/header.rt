@@ -9,27 +9,24 @@ use crate::forwarding_option::ForwardingOption;
 use reload_base::{Bytes, List, NoMemory};
 use std::alloc::Global;
 use wire_core::{
-    Bad, Cursor, DecodeFault, Reason, allowed, list_fits, list_len, put_list, put_u8, put_u16,
-    put_u32, put_u64, take_filled,
+    Bad, Cursor, DecodeFault, MAX_MESSAGE, Reason, allowed, list_fits, list_len, put_list, put_u8,
+    put_u16, put_u32, put_u64, take_filled,
 };
 
-/// What opens each message.
-const TOKEN: u32 = 0xd245_4c4f;
+/// What opens each message (RFC 6940, section 6.3.2).
+pub const TOKEN: u32 = 0xd245_4c4f;
 
 /// Version 1.0 of RELOAD, times ten.
-const VERSION: u8 = 0x0a;
+pub const VERSION: u8 = 0x0a;
 
-/// The last fragment, at offset 0: the message is whole.
-const WHOLE: u32 = 0xc000_0000;
+/// The fragment field of a message that is whole: the last fragment, at offset 0.
+pub const WHOLE: u32 = 0xc000_0000;
 
-/// The most bytes that each of the three lists may have.
-const LIST_LIMIT: u32 = 4096;
+/// The most bytes that each of the three lists may have (this profile).
+pub const MAX_HEADER_LIST: u32 = 4096;
 
-/// The most bytes that a message may have.
-const MESSAGE_LIMIT: u32 = 262_144;
-
-/// The forwarding header (RFC 6940, section 6.3.2). The token, the version and the fragment field are the same
-/// in each message of this profile.
+/// The forwarding header (RFC 6940, section 6.3.2). The token, the version and the fragment field
+/// are the same in each message of this profile.
 #[derive(Debug, Drop)]
 pub struct Header {
     pub overlay: u32,
@@ -53,7 +50,7 @@ fn take_message_length(from: &mut Cursor<'_>, end: u64) -> Result<u32, Bad>
     ensures { Reads result from.new (message_length_at end from.old) }
 {
     let place = from.place();
-    let len = from.take_limited(4, MESSAGE_LIMIT)?;
+    let len = from.take_limited(4, MAX_MESSAGE)?;
     allowed(u64::from(len) <= end, place, Reason::LengthPast)?;
     allowed(end <= u64::from(len), u64::from(len), Reason::Trailing)?;
     Ok(len)
@@ -92,11 +89,11 @@ fn take_lists(alloc: Global, from: &mut Cursor<'_>, fixed: Header) -> Result<Hea
     ensures { Decodes result from.new (lists_at fixed from.old) }
 {
     let via_place = from.place();
-    let via_length = from.take_limited(2, LIST_LIMIT)?;
+    let via_length = from.take_limited(2, MAX_HEADER_LIST)?;
     let dest_place = from.place();
-    let dest_length = from.take_limited(2, LIST_LIMIT)?;
+    let dest_length = from.take_limited(2, MAX_HEADER_LIST)?;
     let options_place = from.place();
-    let options_length = from.take_limited(2, LIST_LIMIT)?;
+    let options_length = from.take_limited(2, MAX_HEADER_LIST)?;
     let via = take_filled(alloc, from, via_place, via_length)?;
     let dest = take_filled(alloc, from, dest_place, dest_length)?;
     let options = take_filled(alloc, from, options_place, options_length)?;
@@ -120,17 +117,17 @@ pub(crate) fn take_header(
     take_lists(alloc, from, fixed)
 }
 
-/// Whether a header has a spelling: each of its lists spells at most 4,096 bytes, each entry fits its length,
-/// and each short destination has its top bit set.
+/// Whether a header has a spelling: each of its lists spells at most `MAX_HEADER_LIST` bytes, each
+/// entry fits its length, and each short destination has its top bit set.
 pub fn fits(h: &Header) -> bool
     ensures { IsTrue result ↔ IsSpelledHeader h.now }
 {
     list_fits(&h.via)
         && list_fits(&h.dest)
         && list_fits(&h.options)
-        && list_len(&h.via) <= u64::from(LIST_LIMIT)
-        && list_len(&h.dest) <= u64::from(LIST_LIMIT)
-        && list_len(&h.options) <= u64::from(LIST_LIMIT)
+        && list_len(&h.via) <= u64::from(MAX_HEADER_LIST)
+        && list_len(&h.dest) <= u64::from(MAX_HEADER_LIST)
+        && list_len(&h.options) <= u64::from(MAX_HEADER_LIST)
 }
 
 #[tactic(auto, unfolding(crate::specs::Header::fixed))]

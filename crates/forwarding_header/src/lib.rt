@@ -8,9 +8,9 @@ mod header;
 mod way_back;
 
 pub use decode::{decode_header, entries_are_layouts, one_form};
-pub use destination::Destination;
+pub use destination::{Destination, MAX_OPAQUE};
 pub use forwarding_option::ForwardingOption;
-pub use header::{Header, encode_header, fits};
+pub use header::{Header, MAX_HEADER_LIST, encode_header, fits};
 pub use way_back::reversed;
 
 #[cfg(test)]

@@ -12,8 +12,8 @@ const PLAIN: [u8; 38] = [
     0, 0, 2, 0, 0, 0, 1, 0, 0, 0, 0, 0, 0, 0, 0, 0, 0,
 ];
 
-/// The header of a message of 97 bytes: a node and a short destination in its via list, a resource and opaque
-/// bytes twice in its destination list, and two options.
+/// The header of a message of 97 bytes: a node and a short destination in its via list, a resource
+/// and opaque bytes twice in its destination list, and two options.
 const FULL: [u8; 95] = [
     0xd2, 0x45, 0x4c, 0x4f, 0x9c, 0xd0, 0xd8, 0x9d, 1, 2, 0x0a, 7, 0xc0, 0, 0, 0, 0, 0, 0, 97, 0,
     0, 0, 2, 0, 0, 0, 1, 0, 0, 0x10, 0, 0, 20, 0, 27, 0, 10, // the via list

@@ -5,8 +5,8 @@ use reload_base::{List, NoMemory, TryCopy};
 use reload_ids::NodeId;
 use std::alloc::Global;
 
-/// The way back: the node that a request came from first, and then the entries of its via list, the last of
-/// them first (RFC 6940, section 6.2.2).
+/// The way back: the node that a request came from first, and then the entries of its via list, the
+/// last of them first (RFC 6940, section 6.2.2).
 pub fn reversed(
     alloc: Global,
     first: NodeId,

@@ -1,31 +1,20 @@
 -- A stream has one listing.
-use Rattle.std.proofs.Common.{◌≡◌, ◌↔◌, ℕ, ◌+◌, inl, inr, List, [], ◌∷◌, ◌++◌, length, Option, None, Some, Err, refl, sym, ap, subst, ◌∙◌, append-nil}
-use Rattle.std.specs.List.{flat_map, AllByRecursion}
+use Rattle.std.proofs.Common.{◌≡◌, ◌↔◌, ℕ, inl, inr, List, [], ◌++◌, length, Option, None, Some, refl, sym, ap, subst, ◌∙◌, append-nil}
+use Rattle.std.specs.List.{flat_map}
 use Rattle.text_words.specs.Lines.{ended}
 use Rattle.wire_core.specs.declared.bad.Bad.{Bad}
-use Rattle.forwarding_header.specs.declared.header.Header.{Header}
-use Rattle.forwarding_header.specs.Header.{IsMessage, message_at}
-use Rattle.forwarding_header.proofs.Messages.{message_again, one_message}
 use Rattle.link_framing.specs.declared.frame.Frame.{Frame}
-use Rattle.link_framing.specs.declared.frame.Frame.TheVariants.{Payload, Ack}
 use Rattle.link_framing.specs.Framing.{frame, IsFrame}
 use Rattle.link_framing.specs.Streams.{IsPartial, IsBadType, IsTooLarge}
 use Rattle.link_framing.proofs.Layouts.{frame_once}
 use Rattle.link_framing.proofs.Runs.{Stops, readings}
 use Rattle.link_framing.proofs.Cases.{empty_front, frame_not_bad, frame_not_large, frame_not_partial, partial_not_bad, partial_not_large, bad_not_large}
-use Rattle.frame_listing.specs.Lines.{payload_line, message_line, fault_line}
-use Rattle.frame_listing.specs.Listing.{HoldsMessage, IsWhole, IsListedAs, AreListedAs, at, IsMessageFault, IsBadFrame, IsNoFrame, IsFault, IsEnding, IsListing}
+use Rattle.frame_listing.specs.Lines.{fault_line}
+use Rattle.frame_listing.specs.Messages.{frame_listing}
+use Rattle.frame_listing.specs.Listing.{IsWholeFrame, IsWhole, lines_of, IsBadFrame, IsNoFrame, IsFault, IsEnding, IsListing}
+use Rattle.frame_listing.proofs.Wholes.{whole_frame, whole_fits}
 
-abbrev IsWholeFrame : Frame → Type 0
-IsWholeFrame f = IsFrame f × HoldsMessage f
-
--- a message that is whole has no fault
-whole_message : (h : Header) (m : List ℕ) (inner : Bad) → IsMessage h m → message_at m ≡ Err inner → ⊥
-whole_message h m inner is e = absurd (let same = sym (message_again m h is) ∙ e in cc)
-
-held_whole : (place : ℕ) (f : Frame) (text : List ℕ) (fault : Bad) → HoldsMessage f → IsMessageFault place f text fault → ⊥
-held_whole place (Payload s m) text fault holds is = whole_message holds.0 m is.0 holds.1 is.1
-held_whole place (Ack s r) text fault holds is = is
+-- ---- no whole frame stands in front of what ends a listing
 
 no_frame_stops : (place : ℕ) (rest : List ℕ) (fault : Bad) → IsNoFrame place rest fault → (f : Frame) (more : List ℕ) → IsFrame f → rest ≡ frame f ++ more → ⊥
 no_frame_stops place rest fault (inl is) f more fits e = frame_not_bad f more rest fits e is.0
@@ -34,38 +23,21 @@ no_frame_stops place rest fault (inr (inr is)) f more fits e = frame_not_partial
 
 fault_stops : (place : ℕ) (rest text : List ℕ) (fault : Bad) → IsFault place rest text fault → Stops IsWholeFrame rest
 fault_stops place rest text fault (inl is) f more whole e =
-    let same = (frame_once f is.first more is.later whole.0 is.fits (sym e ∙ is.spelled)).0 in
-    held_whole place is.first text fault (subst HoldsMessage same whole.1) is.is
-fault_stops place rest text fault (inr is) f more whole e = no_frame_stops place rest fault is.0 f more whole.0 e
+    let same = (frame_once f is.first more is.later (whole_fits f whole) is.fits (sym e ∙ is.spelled)).0 in
+    absurd (let none = whole_frame place is.first (subst IsWholeFrame same whole) in let some = is.is in cc)
+fault_stops place rest text fault (inr is) f more whole e = no_frame_stops place rest fault is.0 f more (whole_fits f whole) e
 
 nothing_is_partial : IsPartial []
 nothing_is_partial = inl empty_front
 
 nothing_stops : (rest : List ℕ) → rest ≡ [] → Stops IsWholeFrame rest
-nothing_stops rest none f more whole e = frame_not_partial f more [] whole.0 (sym none ∙ e) nothing_is_partial
+nothing_stops rest none f more whole e = frame_not_partial f more [] (whole_fits f whole) (sym none ∙ e) nothing_is_partial
 
 ending_stops : (frames : List Frame) (rest text : List ℕ) (fault : Option Bad) → IsEnding frames rest text fault → Stops IsWholeFrame rest
 ending_stops frames rest text None is = nothing_stops rest is.0
 ending_stops frames rest text (Some fault) is = fault_stops (length (flat_map frame frames)) rest is.0 fault is.1
 
-frame_lines_hold : (place : ℕ) (f : Frame) (own : List ℕ) → IsListedAs place f own → HoldsMessage f
-frame_lines_hold place (Payload s m) own is = (is.0, is.1)
-frame_lines_hold place (Ack s r) own is = tt
-
-lines_whole : (place : ℕ) (fs : List Frame) (text : List ℕ) → AreListedAs place fs text → AllByRecursion IsWholeFrame fs
-lines_whole place [] text is = tt
-lines_whole place (f ∷ fs) text (own, later, fits, first, lines, whole) = ((fits, frame_lines_hold place f own first), lines_whole (place + length (frame f)) fs later lines)
-
-same_frame_lines : (place : ℕ) (f : Frame) (one other : List ℕ) → IsListedAs place f one → IsListedAs place f other → one ≡ other
-same_frame_lines place (Payload s m) one other (g, is, e) (h, also, k) =
-    let same = (one_message g h m m [] is also (append-nil m)).1 in
-    e ∙ ap (λ (x : Header). ended (payload_line place s (length m)) ++ ended (message_line x)) same ∙ sym k
-same_frame_lines place (Ack s r) one other e k = e ∙ sym k
-
-same_lines : (place : ℕ) (fs : List Frame) (one other : List ℕ) → AreListedAs place fs one → AreListedAs place fs other → one ≡ other
-same_lines place [] one other e k = e ∙ sym k
-same_lines place (f ∷ fs) one other (a, b, fits, first, lines, whole) (x, y, _, also, others, all) =
-    whole ∙ ap (λ (t : List ℕ). t ++ b) (same_frame_lines place f a x first also) ∙ ap (λ (t : List ℕ). x ++ t) (same_lines (place + length (frame f)) fs b y lines others) ∙ sym all
+-- ---- it ends in one way
 
 same_no_frame : (place : ℕ) (rest : List ℕ) (a b : Bad) → IsNoFrame place rest a → IsNoFrame place rest b → a ≡ b
 same_no_frame place rest a b (inl x) (inl y) = x.1 ∙ sym y.1
@@ -78,16 +50,15 @@ same_no_frame place rest a b (inr (inr x)) (inl y) = absurd (partial_not_bad res
 same_no_frame place rest a b (inr (inr x)) (inr (inl y)) = absurd (partial_not_large rest x.0 y.0)
 same_no_frame place rest a b (inr (inr x)) (inr (inr y)) = x.2 ∙ sym y.2
 
-same_message_fault : (place : ℕ) (f : Frame) (one other : List ℕ) (a b : Bad) → IsMessageFault place f one a → IsMessageFault place f other b → (one ≡ other) × (a ≡ b)
-same_message_fault place (Payload s m) one other a b (i, first, is, listed) (j, also, be, told) =
-    let inner : i ≡ j = let e = sym first ∙ also in cc in
-    (listed ∙ sym told, is ∙ ap (λ (i : Bad). at (place + 8 + i.place) i.reason) inner ∙ sym be)
-same_message_fault place (Ack s r) one other a b is also = absurd is
+some_is : (a b : Bad) (x y : Option Bad) → x ≡ Some a → y ≡ Some b → x ≡ y → a ≡ b
+some_is a b x y e f g = cc
 
 same_bad_frame : (place : ℕ) (rest one other : List ℕ) (a b : Bad) → IsBadFrame place rest one a → IsBadFrame place rest other b → (one ≡ other) × (a ≡ b)
 same_bad_frame place rest one other a b x y =
-    let same = (frame_once x.first y.first x.later y.later x.fits y.fits (sym x.spelled ∙ y.spelled)).0 in
-    same_message_fault place y.first one other a b (subst (λ (f : Frame). IsMessageFault place f one a) same x.is) y.is
+    let same = (frame_once x.first y.first x.later y.later x.fits y.fits (sym x.spelled ∙ y.spelled)).0 in (
+      sym x.lines ∙ ap (λ (f : Frame). (frame_listing place f).text) same ∙ y.lines,
+      some_is a b (frame_listing place x.first).fault (frame_listing place y.first).fault x.is y.is (ap (λ (f : Frame). (frame_listing place f).fault) same),
+    )
 
 same_fault : (place : ℕ) (rest one other : List ℕ) (a b : Bad) → IsFault place rest one a → IsFault place rest other b → (one ≡ other) × (a ≡ b)
 same_fault place rest one other a b (inl x) (inl y) = same_bad_frame place rest one other a b x y
@@ -112,12 +83,11 @@ same_ending frames rest one other (Some a) (Some b) x y =
 
 pub one_listing : (bytes one other : List ℕ) (fault last : Option Bad) → IsListing bytes one fault → IsListing bytes other last → (one ≡ other) × (fault ≡ last)
 one_listing bytes one other fault last x y =
-    let same = readings IsWholeFrame (λ f whole. whole.0) x.frames y.frames x.rest y.rest (lines_whole 0 x.frames x.lines x.listed) (lines_whole 0 y.frames y.lines y.listed)
+    let same = readings IsWholeFrame whole_fits x.frames y.frames x.rest y.rest x.each y.each
     (ending_stops x.frames x.rest x.ending fault x.ends) (ending_stops y.frames y.rest y.ending last y.ends) (sym x.spelled ∙ y.spelled) in
-    let lines = same_lines 0 y.frames x.lines y.lines (subst (λ (fs : List Frame). AreListedAs 0 fs x.lines) same.0 x.listed) y.listed in
     let ending = same_ending y.frames y.rest x.ending y.ending fault last
     (subst (λ (r : List ℕ). IsEnding y.frames r x.ending fault) same.1 (subst (λ (fs : List Frame). IsEnding fs x.rest x.ending fault) same.0 x.ends)) y.ends in
-    (x.whole ∙ ap (λ (t : List ℕ). t ++ x.ending) lines ∙ ap (λ (t : List ℕ). y.lines ++ t) ending.0 ∙ sym y.whole, ending.1)
+    (x.whole ∙ ap (λ (fs : List Frame). lines_of 0 fs ++ x.ending) same.0 ∙ ap (λ (t : List ℕ). lines_of 0 y.frames ++ t) ending.0 ∙ sym y.whole, ending.1)
 
 left_whole : (frames : List Frame) (rest text : List ℕ) (fault : Option Bad) → IsEnding frames rest text fault → rest ≡ [] → fault ≡ None
 left_whole frames rest text None is none = refl
@@ -129,11 +99,10 @@ nothing_left frames rest text (Some fault) is none = absurd cc
 
 -- it has no fault exactly where the stream is whole
 pub listing_whole : (bytes text : List ℕ) (fault : Option Bad) → IsListing bytes text fault → (fault ≡ None) ↔ IsWhole bytes
-listing_whole bytes text fault x =
-    let each = lines_whole 0 x.frames x.lines x.listed in (
-      λ none. (x.frames, each, x.spelled ∙ ap (λ (r : List ℕ). flat_map frame x.frames ++ r) (nothing_left x.frames x.rest x.ending fault x.ends none) ∙ append-nil (flat_map frame x.frames)),
-      λ whole.
-          let same = readings IsWholeFrame (λ f whole. whole.0) x.frames whole.0 x.rest [] each whole.1 (ending_stops x.frames x.rest x.ending fault x.ends) (nothing_stops [] refl)
-          (sym x.spelled ∙ whole.2 ∙ sym (append-nil (flat_map frame whole.0))) in
-          left_whole x.frames x.rest x.ending fault x.ends same.1,
-    )
+listing_whole bytes text fault x = (
+  λ none. (x.frames, x.each, x.spelled ∙ ap (λ (r : List ℕ). flat_map frame x.frames ++ r) (nothing_left x.frames x.rest x.ending fault x.ends none) ∙ append-nil (flat_map frame x.frames)),
+  λ whole.
+      let same = readings IsWholeFrame whole_fits x.frames whole.0 x.rest [] x.each whole.1 (ending_stops x.frames x.rest x.ending fault x.ends) (nothing_stops [] refl)
+      (sym x.spelled ∙ whole.2 ∙ sym (append-nil (flat_map frame whole.0))) in
+      left_whole x.frames x.rest x.ending fault x.ends same.1,
+)

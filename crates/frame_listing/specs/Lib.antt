@@ -1,4 +1,5 @@
 pub mod Fronts
 pub mod Lines
 pub mod Listing
+pub mod Messages
 pub mod Texts

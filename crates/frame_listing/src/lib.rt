@@ -1,4 +1,5 @@
-//! The listing of a stream of frames: a line for each frame and for the header of each message, up to the first fault.
+//! The listing of a stream of frames: a line for each frame and for each part of its message, up to
+//! the first fault.
 #![tactic(auto)]
 
 mod front;
@@ -6,6 +7,8 @@ mod label;
 mod laws;
 mod lines;
 mod listing;
+mod message;
+mod parts;
 
 pub use laws::one_listing;
 pub use listing::{Listing, list_stream};

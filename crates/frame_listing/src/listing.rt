@@ -7,6 +7,7 @@ ghost use Rattle.frame_listing.specs.Listing.{IsWhole, IsListing};
 
 use crate::front::put_front;
 use crate::lines::{put_end_line, put_fault_line};
+use crate::message::no_kinds;
 use reload_base::{Bytes, NoMemory};
 use std::alloc::Global;
 use wire_core::{Bad, DecodeFault};
@@ -20,7 +21,8 @@ pub struct Listing {
     pub fault: Option<Bad>,
 }
 
-/// Lists the frames of a whole stream, and the header of each message, up to the first fault.
+/// Lists the frames of a whole stream, and the parts of each message, up to the first fault. All
+/// kinds are unknown: their values may be any bytes.
 pub fn list_stream(alloc: Global, stream: &[u8]) -> Result<Listing, NoMemory>
     requires { length stream.now < 2 ^ 63 }
     // What is listed, and the first fault, if there is one.
@@ -36,12 +38,13 @@ fn list(alloc: Global, stream: &[u8]) -> Result<Listing, NoMemory>
     requires { length stream.now < 2 ^ 63 }
     ensures { IfOk result (λ listing. IsListing stream.now listing.text listing.fault) }
 {
+    let config = no_kinds(alloc)?;
     let mut text = Bytes::new(alloc);
     let mut rest = stream;
     let mut frames = 0u64;
     'frames: while !rest.is_empty() {
         let place = (stream.len() - rest.len()) as u64;
-        match put_front(alloc, &mut text, rest, place) {
+        match put_front(alloc, &config, &mut text, rest, place) {
             Ok(len) => rest = rest.split_at(len).1,
             Err(DecodeFault::Bad(fault)) => return ended_by(text, fault),
             Err(DecodeFault::NoMemory) => return Err(NoMemory),
@@ -54,7 +57,8 @@ fn list(alloc: Global, stream: &[u8]) -> Result<Listing, NoMemory>
 
 // The listing whose last line tells a fault.
 fn ended_by(mut text: Bytes, fault: Bad) -> Result<Listing, NoMemory>
-    ensures { IfOk result (λ listing. (listing.text ≡ text ++ ended (fault_line fault)) × (listing.fault ≡ Some fault)) }
+    ensures { IfOk result (λ listing. (listing.text ≡ text ++ ended (fault_line fault))
+        × (listing.fault ≡ Some fault)) }
 {
     put_fault_line(&mut text, fault)?;
     Ok(Listing {

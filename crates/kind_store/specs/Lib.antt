@@ -1,8 +1,9 @@
-pub use Rattle.storage_model.specs.Records
-pub use Rattle.storage_model.specs.Verdict
-pub use Rattle.storage_model.specs.Fetches
-pub use Rattle.storage_model.specs.Decisions
-pub mod Counted
-pub mod Put
-pub mod Judged
+pub mod Codes
+pub mod Seen
 pub mod Light
+pub mod Undo
+pub mod Log
+pub mod Steps
+pub mod Sweep
+pub mod Gathered
+pub mod Written

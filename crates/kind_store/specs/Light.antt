@@ -1,14 +1,33 @@
--- How much the kinds of one record may weigh.
-use Rattle.std.specs.Prelude.{ℕ, ◌≤◌, unwrap_or}
-use Rattle.std.specs.Ordering.{nat_cmp}
-use Rattle.std.specs.BTreeMap as tree
-use Rattle.storage_model.specs.declared.record.Record.{Record}
-use Rattle.storage_model.specs.Records.{empty_record, weight}
+-- Running sums: what a record weighs, counted no further than is needed to tell that it is too
+-- much, and a clock before which nothing expires.
+use Rattle.std.specs.Prelude.{◌≡◌, ℕ, ◌+◌, ◌≤◌, ◌^◌, List, Option, min, sum_by}
+use Rattle.std.specs.Option.{option_map_or}
+use Rattle.std.specs.FinMap.{entries}
+use Rattle.storage_model.specs.declared.limits.TheConstants.{MAX_WEIGHT}
+use Rattle.storage_model.specs.declared.record.Held.{Held}
+use Rattle.storage_model.specs.Records.{SlotEntry, Slots, KindEntry, Kinds, slot_in, slot_weight, kind_weight}
 
--- a record's kinds weigh at most 131,072 (this profile)
-abbrev pub IsLight : Record → Type 0
-IsLight x = weight x.kinds ≤ 131072
+-- a weight, or one more than a record may weigh where it is more
+abbrev pub counted : ℕ → ℕ
+counted weight = min weight (MAX_WEIGHT + 1)
 
--- each record of a map does
-abbrev pub AreLight : tree.BTreeMap ℕ Record → Type 0
-AreLight m = (resource : ℕ) → IsLight (unwrap_or (tree.get nat_cmp m resource) empty_record)
+abbrev pub counted_slot : List ℕ × SlotEntry → ℕ
+counted_slot s = counted (slot_weight s.0 s.1)
+
+abbrev pub counted_kind : ℕ × KindEntry → ℕ
+counted_kind k = counted (kind_weight k.1)
+
+unfoldable pub slots_sum : Slots → ℕ
+slots_sum slots = sum_by counted_slot (entries slots)
+
+unfoldable pub kinds_sum : Kinds → ℕ
+kinds_sum kinds = sum_by counted_kind (entries kinds)
+
+-- when a value expires, never where there is none
+abbrev pub expiry_of : Option Held → ℕ
+expiry_of held = option_map_or (λ h. h.expiry) held (2 ^ 64)
+
+-- no value of these slots expires before a clock
+unfoldable pub IsNoSooner : ℕ → Slots → Type 0
+IsNoSooner soonest slots =
+    (soonest ≤ 2 ^ 64) × ((key : List ℕ) → soonest ≤ expiry_of (slot_in slots key).held)

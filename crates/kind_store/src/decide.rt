@@ -1,49 +1,351 @@
 //! A decision on a Store, with the record that the resource has (RFC 6940, section 7.4.1).
 
-ghost use Rattle.std.specs.Prelude.{◌≡◌, ◌==◌, ◌^◌, ◌<◌, Some, None, [], unwrap_or, if◌then◌else◌, IfOk, OnOk, OnErr};
-ghost use Rattle.std.specs.List.{list_any};
-ghost use Rattle.storage_model.specs.Verdict.{outcome_of, first_outcome, kept_outcome, code_of};
+ghost use Rattle.std.specs.Prelude.{◌≡◌, ◌<◌, ◌^◌, ℕ, true, Some, None, IsSome, unwrap_or, if◌then◌else◌, IfOk, OnOk, OnErr};
+ghost use Rattle.std.specs.Option.{option_copied};
+ghost use Rattle.reload_base.specs.Lists.{pushed_within};
+ghost use Rattle.storage_model.specs.declared.limits.TheConstants.{MAX_KEPT};
+ghost use Rattle.storage_model.specs.Records.{kind_in, kept_for};
+ghost use Rattle.storage_model.specs.Refusals.{first_cause};
+ghost use Rattle.storage_model.specs.Requests.{is_sound};
+ghost use Rattle.storage_model.specs.Puts.{kinds_after};
 ghost use Rattle.storage_model.specs.Verdict as verdict;
-ghost use Rattle.kind_store.specs.Counted.{IsCounted};
-ghost use Rattle.kind_store.specs.Judged.{refused_outcome, accepted_outcome};
+ghost use Rattle.storage_model.specs.Verdict.{outcome_of};
+ghost use Rattle.kind_store.specs.Steps as steps;
+ghost use Rattle.kind_store.specs.Steps.{IsCounted};
 
-use crate::code::GENERATION_TOO_LOW;
-use crate::counters::counters_in;
-use crate::judge::{Judgement, judge};
-use crate::lookup::answer_to;
-use crate::note::note;
-use crate::put::puts;
+use crate::asked::any_puts;
+use crate::causes::{early_cause, sequence_cause};
+use crate::counters::{counters_in, counters_told};
+use crate::draft::Draft;
+use crate::kinds::Kinds;
+use crate::limits;
+use crate::puts::put_kinds;
+use crate::record::Record;
+use crate::sweep::sweep;
 use data_models::Config;
 use reload_base::{List, NoMemory, TryCopy};
+use reload_ids::{NodeId, ResourceId};
 use std::alloc::Global;
-use storage_model::{AskedKind, Kept, KindRecord, Record, StoreAsked, StoreVerdict};
+use storage_model::{Kept, MAX_KEPT, Refusal, StoreAsked, StoreVerdict};
 
-/// Decides on a Store. After `NoMemory` the record is as before.
-#[tactic(auto, unfolding(storage_model::specs::Verdict::outcome_of, storage_model::specs::Verdict::kept_outcome))]
-pub fn decide_on(
+impl Record {
+    /// Decides on a Store, at a clock in milliseconds. After `NoMemory` the record is as before.
+    #[tactic(auto, unfolding(storage_model::specs::Verdict::outcome_of, storage_model::specs::Verdict::repeated))]
+    pub(crate) fn decide(
+        &mut self,
+        alloc: Global,
+        config: &Config,
+        now: u64,
+        resource: ResourceId,
+        origin: NodeId,
+        id: u64,
+        request: &StoreAsked,
+    ) -> Result<StoreVerdict, NoMemory>
+        requires clock { now < 2 ^ 62 }
+        requires counted { IsCounted self.old }
+        requires sound { is_sound config.now request.now ≡ true }
+        ensures verdict { IfOk result (λ v.
+            v ≡ (outcome_of config.now now resource.0 self.old origin id request.now).verdict) }
+        ensures next { OnOk result (
+            self.new ≡ unwrap_or
+            (outcome_of config.now now resource.0 self.old origin id request.now).next
+            self.old) }
+        ensures err { OnErr result (self.new ≡ self.old) }
+    {
+        if let Some(kept) = answer_to(self.kept.as_slice(), origin.0, id) {
+            return repeated(alloc, kept);
+        }
+        self.decide_anew(alloc, config, now, resource, origin, id, request)
+    }
+
+    /// Decides on a Store whose answer isn't kept. After `NoMemory` the record is as before.
+    fn decide_anew(
+        &mut self,
+        alloc: Global,
+        config: &Config,
+        now: u64,
+        resource: ResourceId,
+        origin: NodeId,
+        id: u64,
+        request: &StoreAsked,
+    ) -> Result<StoreVerdict, NoMemory>
+        requires clock { now < 2 ^ 62 }
+        requires counted { IsCounted self.old }
+        requires sound { is_sound config.now request.now ≡ true }
+        ensures verdict { IfOk result (λ v.
+            v ≡ (verdict.decided (first_cause
+            (verdict.store_causes config.now now resource.0 self.old.kinds request.now)) now
+            self.old origin id request.now).verdict) }
+        ensures next { OnOk result (
+            self.new ≡ unwrap_or (verdict.decided (first_cause
+            (verdict.store_causes config.now now resource.0 self.old.kinds request.now)) now
+            self.old origin id request.now).next self.old) }
+        ensures err { OnErr result (self.new ≡ self.old) }
+    {
+        match cause_before(config, resource, &self.kinds, request) {
+            Some(cause) => self.refuse(alloc, cause, origin, id, request),
+            None => self.accept_or_refuse(alloc, config, now, origin, id, request),
+        }
+    }
+
+    /// Accepts a Store, or refuses it where its kinds would pass a limit. After `NoMemory` the
+    /// record is as before.
+    fn accept_or_refuse(
+        &mut self,
+        alloc: Global,
+        config: &Config,
+        now: u64,
+        origin: NodeId,
+        id: u64,
+        request: &StoreAsked,
+    ) -> Result<StoreVerdict, NoMemory>
+        requires clock { now < 2 ^ 62 }
+        requires counted { IsCounted self.old }
+        requires sound { is_sound config.now request.now ≡ true }
+        ensures verdict { IfOk result (λ v.
+            v ≡ (verdict.decided (steps.cause_of None (steps.is_large config.now
+            (kinds_after now self.old.kinds request.now.kinds) request.now)) now self.old
+            origin id request.now).verdict) }
+        ensures next { OnOk result (
+            self.new ≡ unwrap_or (verdict.decided (steps.cause_of None (steps.is_large config.now
+            (kinds_after now self.old.kinds request.now.kinds) request.now)) now self.old
+            origin id request.now).next self.old) }
+        ensures err { OnErr result (self.new ≡ self.old) }
+    {
+        match self.accept(alloc, config, now, origin, id, request)? {
+            Some(verdict) => Ok(verdict),
+            None => self.refuse(alloc, Refusal::DataTooLarge, origin, id, request),
+        }
+    }
+
+    /// Refuses a Store: its kinds stay. After `NoMemory` the record is as before.
+    #[tactic(auto, unfolding(storage_model::specs::Verdict::refused))]
+    fn refuse(
+        &mut self,
+        alloc: Global,
+        cause: Refusal,
+        origin: NodeId,
+        id: u64,
+        request: &StoreAsked,
+    ) -> Result<StoreVerdict, NoMemory>
+        requires { self.old.turn < 2 ^ 63 }
+        ensures verdict { IfOk result (λ v. v ≡
+            (verdict.refused cause self.old origin id request.now).verdict) }
+        ensures next { OnOk result (
+            self.new ≡ unwrap_or
+            (verdict.refused cause self.old origin id request.now).next self.old) }
+        ensures err { OnErr result (self.new ≡ self.old) }
+    {
+        let counters = counters_told(alloc, cause, &self.kinds, request.kinds.as_slice())?;
+        if !is_traceless(cause) {
+            self.note(alloc, origin, id, cause.code(), &counters)?;
+        }
+        Ok(StoreVerdict {
+            code: cause.code(),
+            counters,
+            repeat: false,
+            acted: false,
+        })
+    }
+
+    /// Keeps an answer, and raises the turn. After `NoMemory` the record is as before.
+    #[tactic(auto, unfolding(storage_model::specs::Verdict::noted))]
+    fn note(
+        &mut self,
+        alloc: Global,
+        origin: NodeId,
+        id: u64,
+        code: u16,
+        counters: &List<(u32, u64)>,
+    ) -> Result<(), NoMemory>
+        requires { self.old.turn < 2 ^ 63 }
+        ensures ok { OnOk result (
+            self.new ≡ verdict.noted
+            (steps.answer origin id code counters.now) self.old.kinds self.old) }
+        ensures err { OnErr result (self.new ≡ self.old) }
+    {
+        keep(&mut self.kept, alloc, origin, id, code, counters)?;
+        self.turn += 1;
+        Ok(())
+    }
+
+    /// Accepts a Store. `None` where its kinds would pass a limit: then, and after `NoMemory`, the
+    /// record is as before.
+    fn accept(
+        &mut self,
+        alloc: Global,
+        config: &Config,
+        now: u64,
+        origin: NodeId,
+        id: u64,
+        request: &StoreAsked,
+    ) -> Result<Option<StoreVerdict>, NoMemory>
+        requires clock { now < 2 ^ 62 }
+        requires counted { IsCounted self.old }
+        requires sound { is_sound config.now request.now ≡ true }
+        ensures verdict { IfOk result (λ r.
+            r ≡ steps.settled config.now
+            (kinds_after now self.old.kinds request.now.kinds) request.now) }
+        ensures some { IfOk result (λ r. IsSome r → self.new ≡ verdict.noted
+            (steps.accepted_answer
+            (kinds_after now self.old.kinds request.now.kinds) origin id request.now)
+            (kinds_after now self.old.kinds request.now.kinds) self.old) }
+        ensures none { IfOk result (λ r. r ≡ None → self.new ≡ self.old) }
+        ensures err { OnErr result (self.new ≡ self.old) }
+    {
+        let kinds = std::mem::replace(&mut self.kinds, Kinds::new(alloc));
+        let mut draft = Draft::new(alloc, kinds);
+        match changed(
+            &mut draft,
+            &mut self.kept,
+            alloc,
+            config,
+            now,
+            origin,
+            id,
+            request,
+        ) {
+            Ok(Some(verdict)) => {
+                self.kinds = draft.commit();
+                self.turn += 1;
+                Ok(Some(verdict))
+            }
+            Ok(None) => {
+                self.kinds = draft.rollback();
+                Ok(None)
+            }
+            Err(error) => {
+                self.kinds = draft.rollback();
+                Err(error)
+            }
+        }
+    }
+}
+
+/// Changes the kinds as an accepted Store does, and keeps its answer. `None` where they pass a
+/// limit then: nothing is
+/// kept, as after `NoMemory`.
+#[tactic(auto, unfolding(storage_model::specs::Puts::kinds_after))]
+fn changed(
+    draft: &mut Draft,
+    kept: &mut List<Kept>,
     alloc: Global,
     config: &Config,
     now: u64,
-    resource: u128,
-    held: &mut Record,
-    q: &StoreAsked,
-) -> Result<StoreVerdict, NoMemory>
+    origin: NodeId,
+    id: u64,
+    request: &StoreAsked,
+) -> Result<Option<StoreVerdict>, NoMemory>
     requires clock { now < 2 ^ 62 }
-    requires counted { IsCounted held.old }
-    ensures verdict { IfOk result (λ v. v ≡ (outcome_of config.now now resource held.old q.now).verdict) }
-    ensures next { OnOk result (held.new ≡ unwrap_or (outcome_of config.now now resource held.old q.now).next held.old) }
-    ensures err { OnErr result (held.new ≡ held.old) }
+    requires counted { (kind : ℕ) → (kind_in draft.old.kinds kind).generation < 2 ^ 63 }
+    requires sound { is_sound config.now request.now ≡ true }
+    ensures before { draft.new.before ≡ draft.old.before }
+    ensures kinds { OnOk result (draft.new.kinds
+        ≡ kinds_after now draft.old.kinds request.now.kinds) }
+    ensures verdict { IfOk result (λ r.
+        r ≡ steps.settled config.now
+        (kinds_after now draft.old.kinds request.now.kinds) request.now) }
+    ensures kept { OnOk result (kept.new ≡ steps.settled_kept config.now
+        (kinds_after now draft.old.kinds request.now.kinds) origin id request.now kept.old) }
+    ensures err { OnErr result (kept.new ≡ kept.old) }
 {
-    if let Some(kept) = answer_to(held.kept.as_slice(), q.origin.0, q.id) {
-        return repeated(alloc, kept);
+    sweep(draft, alloc, now)?;
+    put_kinds(draft, alloc, now, config, request)?;
+    settled(draft.kinds(), kept, alloc, config, origin, id, request)
+}
+
+/// The verdict on an accepted Store whose kinds are these afterwards. Its answer is kept. `None`
+/// where they pass a
+/// limit: nothing is kept, as after `NoMemory`.
+#[tactic(auto, unfolding(crate::specs::Steps::settled, crate::specs::Steps::settled_kept))]
+fn settled(
+    after: &Kinds,
+    kept: &mut List<Kept>,
+    alloc: Global,
+    config: &Config,
+    origin: NodeId,
+    id: u64,
+    request: &StoreAsked,
+) -> Result<Option<StoreVerdict>, NoMemory>
+    ensures verdict { IfOk result (λ r. r ≡ steps.settled config.now after.now request.now) }
+    ensures kept { OnOk result (kept.new
+        ≡ steps.settled_kept config.now after.now origin id request.now kept.old) }
+    ensures err { OnErr result (kept.new ≡ kept.old) }
+{
+    if limits::is_large(config, after, request) {
+        return Ok(None);
     }
-    decide_anew(alloc, config, now, resource, held, q)
+    let asked = request.kinds.as_slice();
+    let counters = counters_in(alloc, after, asked)?;
+    keep(kept, alloc, origin, id, 0, &counters)?;
+    Ok(Some(StoreVerdict {
+        code: 0,
+        counters,
+        repeat: false,
+        acted: any_puts(asked),
+    }))
+}
+
+/// The first cause to refuse a Store but the limits of its kinds.
+fn cause_before(
+    config: &Config,
+    resource: ResourceId,
+    kinds: &Kinds,
+    request: &StoreAsked,
+) -> Option<Refusal>
+    ensures { result ≡ steps.cause_before config.now resource.0 kinds.now request.now }
+{
+    match sequence_cause(config, request.sequence) {
+        Some(cause) => Some(cause),
+        None => early_cause(config, resource, kinds, request),
+    }
+}
+
+/// Whether a refusal leaves no trace in the record: the asker's configuration is another.
+fn is_traceless(cause: Refusal) -> bool
+    ensures { result ≡ verdict.is_traceless cause }
+{
+    match cause {
+        Refusal::ConfigTooOld | Refusal::ConfigTooNew => true,
+        _ => false,
+    }
+}
+
+/// Keeps an answer in place of the oldest of [`MAX_KEPT`]. After `NoMemory` all are as before.
+fn keep(
+    kept: &mut List<Kept>,
+    alloc: Global,
+    origin: NodeId,
+    id: u64,
+    code: u16,
+    counters: &List<(u32, u64)>,
+) -> Result<(), NoMemory>
+    ensures ok { OnOk result (kept.new ≡ pushed_within MAX_KEPT kept.old
+        (steps.answer origin id code counters.now)) }
+    ensures err { OnErr result (kept.new ≡ kept.old) }
+{
+    let answer = Kept {
+        origin,
+        id,
+        code,
+        counters: counters.copy(alloc)?,
+    };
+    kept.push_within(MAX_KEPT, answer)
+}
+
+/// The answer that is kept for a request.
+#[tactic(auto, unfolding(storage_model::specs::Records::kept_for))]
+fn answer_to(kept: &[Kept], origin: u128, id: u64) -> Option<&Kept>
+    ensures { option_copied result ≡ kept_for kept.now origin id }
+{
+    kept.iter()
+        .find(|answer| answer.origin.0 == origin && answer.id == id)
 }
 
 /// The answer that was kept, once more.
-#[tactic(auto, unfolding(storage_model::specs::Verdict::kept_outcome))]
+#[tactic(auto, unfolding(storage_model::specs::Verdict::repeated))]
 fn repeated(alloc: Global, kept: &Kept) -> Result<StoreVerdict, NoMemory>
-    ensures { IfOk result (λ v. v ≡ (kept_outcome kept.now).verdict) }
+    ensures { IfOk result (λ v. v ≡ (verdict.repeated kept.now).verdict) }
 {
     Ok(StoreVerdict {
         code: kept.code,
@@ -51,105 +353,4 @@ fn repeated(alloc: Global, kept: &Kept) -> Result<StoreVerdict, NoMemory>
         repeat: true,
         acted: false,
     })
-}
-
-/// Decides on a Store whose answer isn't kept. After `NoMemory` the record is as before.
-#[tactic(auto, using(crate::proofs::Judges::first_judged))]
-fn decide_anew(
-    alloc: Global,
-    config: &Config,
-    now: u64,
-    resource: u128,
-    held: &mut Record,
-    q: &StoreAsked,
-) -> Result<StoreVerdict, NoMemory>
-    requires clock { now < 2 ^ 62 }
-    requires counted { IsCounted held.old }
-    ensures verdict { IfOk result (λ v.
-        v ≡ (first_outcome (code_of config.now now resource held.old.kinds q.now.kinds) now held.old q.now).verdict) }
-    ensures next { OnOk result (
-        Some held.new ≡ (first_outcome (code_of config.now now resource held.old.kinds q.now.kinds) now held.old q.now).next) }
-    ensures err { OnErr result (held.new ≡ held.old) }
-{
-    match judge(
-        alloc,
-        config,
-        now,
-        resource,
-        held.kinds.as_slice(),
-        q.kinds.as_slice(),
-    )? {
-        Judgement::Refused(code) => refuse(alloc, held, q, code),
-        Judgement::Accepted(kinds) => accept(alloc, held, q, kinds),
-    }
-}
-
-/// Refuses a Store: its kinds stay. After `NoMemory` the record is as before.
-#[tactic(auto, unfolding(crate::specs::Judged::refused_outcome))]
-fn refuse(
-    alloc: Global,
-    held: &mut Record,
-    q: &StoreAsked,
-    code: u16,
-) -> Result<StoreVerdict, NoMemory>
-    requires { held.old.turn < 2 ^ 63 }
-    ensures verdict { IfOk result (λ v. v ≡ (refused_outcome code held.old q.now).verdict) }
-    ensures next { OnOk result (Some held.new ≡ (refused_outcome code held.old q.now).next) }
-    ensures err { OnErr result (held.new ≡ held.old) }
-{
-    let counters = counters_told(alloc, code, held.kinds.as_slice(), q.kinds.as_slice())?;
-    note(alloc, held, q, code, &counters)?;
-    Ok(StoreVerdict {
-        code,
-        counters,
-        repeat: false,
-        acted: false,
-    })
-}
-
-/// The counters of a refusal: the stored ones where another was asked for, else none.
-fn counters_told(
-    alloc: Global,
-    code: u16,
-    kinds: &[KindRecord],
-    asked: &[AskedKind],
-) -> Result<List<(u32, u64)>, NoMemory>
-    ensures { IfOk result (λ counters.
-        counters ≡ (if code == 5 then verdict.counters_in kinds.now asked.now else [])) }
-{
-    if code == GENERATION_TOO_LOW {
-        counters_in(alloc, kinds, asked)
-    } else {
-        Ok(List::new(alloc))
-    }
-}
-
-/// Accepts a Store, with the kinds afterwards. After `NoMemory` the record is as before.
-#[tactic(auto, unfolding(crate::specs::Judged::accepted_outcome, storage_model::specs::Verdict::noted))]
-fn accept(
-    alloc: Global,
-    held: &mut Record,
-    q: &StoreAsked,
-    kinds: List<KindRecord>,
-) -> Result<StoreVerdict, NoMemory>
-    requires { held.old.turn < 2 ^ 63 }
-    ensures verdict { IfOk result (λ v. v ≡ (accepted_outcome kinds held.old q.now).verdict) }
-    ensures next { OnOk result (Some held.new ≡ (accepted_outcome kinds held.old q.now).next) }
-    ensures err { OnErr result (held.new ≡ held.old) }
-{
-    let counters = counters_in(alloc, kinds.as_slice(), q.kinds.as_slice())?;
-    note(alloc, held, q, 0, &counters)?;
-    held.kinds = kinds;
-    Ok(StoreVerdict {
-        code: 0,
-        counters,
-        repeat: false,
-        acted: any_puts(q.kinds.as_slice()),
-    })
-}
-
-fn any_puts(asked: &[AskedKind]) -> bool
-    ensures { result ≡ list_any verdict.puts asked.now }
-{
-    asked.iter().any(|kind| puts(kind))
 }

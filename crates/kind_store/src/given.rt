@@ -1,92 +1,98 @@
-//! What a Fetch is given for one slot of a single kind (RFC 6940, section 7.4.2.2).
+//! What a Fetch gives for one slot.
 
-ghost use Rattle.std.specs.Prelude.{◌≡◌, ◌<◌, [], IfOk};
+ghost use Rattle.std.specs.Prelude.{◌≡◌, ◌-◌, ◌^◌, min, is_some, IfOk};
 ghost use Rattle.std.specs.Option.{option_copied};
-ghost use Rattle.storage_model.specs.Verdict as verdict;
+ghost use Rattle.data_models.specs.Stored.{key_of, gap, stored_size};
+ghost use Rattle.storage_model.specs.Records as records;
 ghost use Rattle.storage_model.specs.Fetches as fetches;
 
-use crate::lookup::{kind_at, slot_at};
+use crate::key_bytes::key_bytes;
+use crate::slot::SlotState;
+use crate::slots::Slots;
 use data_models::{SlotKey, StoredData};
-use reload_base::{List, NoMemory, TryCopy};
+use reload_base::{NoMemory, TryCopy};
 use std::alloc::Global;
-use storage_model::{Held, KindRecord};
+use storage_model::Held;
 
-/// The bytes of a gap: a StoredData that has neither a value nor a signature.
-const GAP_SIZE: u32 = 28;
-
-/// What is given for the slot of a single kind: its value unless that is expired, else a gap.
+/// What is given for a slot: its value, or a gap where there is none that isn't expired.
 #[tactic(auto, unfolding(storage_model::specs::Fetches::given_for))]
 pub fn given_for(
     alloc: Global,
     now: u64,
-    kinds: &[KindRecord],
-    id: u32,
+    slots: &Slots,
+    key: SlotKey,
 ) -> Result<StoredData, NoMemory>
-    ensures { IfOk result (λ given. given ≡ fetches.given_for now (fetches.held_in kinds.now id [])) }
+    ensures { IfOk result (λ given.
+        given ≡ fetches.given_for now key (records.slot_in slots.now (key_of key)).held) }
 {
-    match unexpired_at(now, kinds, id) {
-        Some(held) => found(alloc, now, held),
-        None => Ok(gap(alloc)),
+    let mut room = [0; 4];
+    match unexpired_at(now, slots, key_bytes(&key, &mut room)) {
+        Some(held) => found(alloc, now, key, held),
+        None => Ok(StoredData::gap(alloc, key)),
     }
 }
 
-/// How many bytes that has.
+/// How many bytes that has, or `u64::MAX` where there are more.
 #[tactic(auto, unfolding(storage_model::specs::Fetches::given_size))]
-pub fn given_size(now: u64, kinds: &[KindRecord], id: u32) -> u32
-    ensures { result ≡ fetches.given_size now (fetches.held_in kinds.now id []) }
+pub fn given_size(now: u64, slots: &Slots, key: &SlotKey) -> u64
+    ensures { result ≡ min
+        (fetches.given_size now key.now (records.slot_in slots.now (key_of key.now)).held)
+        (2 ^ 64 - 1) }
 {
-    match unexpired_at(now, kinds, id) {
-        Some(held) => held.size,
-        None => GAP_SIZE,
+    let mut room = [0; 4];
+    match unexpired_at(now, slots, key_bytes(key, &mut room)) {
+        Some(held) => u64::from(held.size),
+        None => gap_size(key),
     }
 }
 
-/// The value of a single kind, where there is one that isn't expired.
-#[tactic(auto, unfolding(storage_model::specs::Verdict::unexpired))]
-fn unexpired_at(now: u64, kinds: &[KindRecord], id: u32) -> Option<&Held>
-    ensures { option_copied result ≡ verdict.unexpired now (fetches.held_in kinds.now id []) }
+/// The bytes of a gap, or `u64::MAX` where there are more.
+#[tactic(auto, using(data_models::proofs::Lengths::laws))]
+fn gap_size(key: &SlotKey) -> u64
+    ensures { result ≡ min (stored_size (gap key.now)) (2 ^ 64 - 1) }
 {
-    match held_at(kinds, id) {
+    match key {
+        SlotKey::Whole => 28,
+        SlotKey::Index(_) | SlotKey::End => 32,
+        SlotKey::Name(name) => (name.len() as u64).saturating_add(30),
+    }
+}
+
+/// The value of a slot, where there is one that isn't expired.
+#[tactic(auto, unfolding(storage_model::specs::Records::unexpired))]
+pub fn unexpired_at<'a>(now: u64, slots: &'a Slots, key: &[u8]) -> Option<&'a Held>
+    ensures { option_copied result ≡ records.unexpired now
+        (records.slot_in slots.now key.now).held }
+{
+    match held_at(slots, key) {
         Some(held) if held.expiry > now => Some(held),
         _ => None,
     }
 }
 
-/// What the slot of a single kind holds, expired or not.
-#[tactic(auto, unfolding(storage_model::specs::Fetches::held_in))]
-fn held_at(kinds: &[KindRecord], id: u32) -> Option<&Held>
-    ensures { option_copied result ≡ fetches.held_in kinds.now id [] }
+/// The value of a slot, expired or not.
+fn held_at<'a>(slots: &'a Slots, key: &[u8]) -> Option<&'a Held>
+    ensures { option_copied result ≡ (records.slot_in slots.now key.now).held }
 {
-    let kind = kind_at(kinds, id)?;
-    let slot = slot_at(kind.slots.as_slice(), &[])?;
-    slot.held.as_ref()
+    match slots.table().get(key) {
+        Some(slot) => slot.held.as_ref(),
+        None => None,
+    }
 }
 
 /// A value that is held, as a Fetch gives it. The one copy of its bytes is made here.
 #[tactic(auto, unfolding(storage_model::specs::Fetches::found_of))]
-fn found(alloc: Global, now: u64, held: &Held) -> Result<StoredData, NoMemory>
-    ensures { IfOk result (λ found. found ≡ fetches.found_of now held.now) }
+fn found(alloc: Global, now: u64, key: SlotKey, held: &Held) -> Result<StoredData, NoMemory>
+    ensures { IfOk result (λ found. found ≡ fetches.found_of now key held.now) }
 {
     Ok(StoredData {
-        key: SlotKey::Whole,
+        key,
         storage_time: held.storage_time,
         lifetime: rest_of(now, held.expiry),
         present: held.present,
         value: held.value.copy(alloc)?,
+        signature: held.signature.copy(alloc)?,
     })
-}
-
-/// What is given where no value is.
-fn gap(alloc: Global) -> StoredData
-    ensures { result ≡ fetches.gap }
-{
-    StoredData {
-        key: SlotKey::Whole,
-        storage_time: 0,
-        lifetime: 0,
-        present: false,
-        value: List::new(alloc),
-    }
 }
 
 /// The rest of a lifetime in whole seconds, rounded up, or the most that a lifetime can say.
@@ -96,4 +102,15 @@ fn rest_of(now: u64, expiry: u64) -> u32
 {
     let seconds = expiry.saturating_sub(now).div_ceil(1000);
     u32::try_from(seconds).unwrap_or(u32::MAX)
+}
+
+/// Whether a slot has a value that isn't expired.
+#[tactic(auto, unfolding(storage_model::specs::Records::unexpired))]
+pub fn is_live(now: u64, slot: &SlotState) -> bool
+    ensures { result ≡ is_some (records.unexpired now slot.now.held) }
+{
+    match &slot.held {
+        Some(held) => held.expiry > now,
+        None => false,
+    }
 }

@@ -1,25 +1,36 @@
-//! The records of one peer, and what is decided of a Store or a Fetch (RFC 6940, section 7.4).
+//! The records of one peer: what they hold, and every decision on them.
 #![tactic(auto)]
 
-mod code;
+mod asked;
+mod causes;
 mod counters;
 mod decide;
+mod draft;
 mod fetch;
+mod floors;
+mod gathering;
 mod given;
-mod judge;
+mod key_bytes;
+mod key_table;
+mod kind;
+mod kind_table;
+mod kinds;
+mod limits;
 mod lookup;
-mod note;
-mod put;
+mod puts;
+mod record;
+mod resource_table;
 mod shelf;
+mod slot;
+mod slots;
+mod soundness;
 mod sweep;
-mod weigh;
+mod undo;
 
-pub use data_models::{KindValues, Selector, Specifier, StoreKind};
+pub use record::Record;
 pub use shelf::Shelf;
+pub use soundness::{sound, sound_fetch};
 pub use storage_model::{
-    Asked, AskedKind, FetchAsked, FetchVerdict, Held, Kept, KindRecord, Record, Slot, StoreAsked,
+    Asked, AskedKind, FetchAsked, FetchVerdict, Held, JoinAsked, Kept, Refusal, StoreAsked,
     StoreVerdict, Value,
 };
-
-#[cfg(test)]
-mod tests;

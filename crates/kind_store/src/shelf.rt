@@ -1,143 +1,236 @@
 //! The records of one peer, by resource.
 
-ghost use Rattle.std.specs.Prelude.{◌≡◌, ◌≤◌, ◌<◌, ◌^◌, unwrap_or, IfOk, OnOk, OnErr};
-ghost use Rattle.std.specs.Option.{option_copied};
+ghost use Rattle.std.specs.Prelude.{◌≡◌, ◌≤◌, ◌<◌, ◌^◌, true, Some, None, is_some, IsSome, nat_lt, if◌then◌else◌, IfOk, OnOk, OnErr};
+ghost use Rattle.std.specs.Option.{option_copied, option_map_or};
 ghost use Rattle.std.specs.FinMap as map;
-ghost use Rattle.storage_model.specs.Records as records;
+ghost use Rattle.storage_model.specs.declared.limits.TheConstants.{MAX_WEIGHT};
+ghost use Rattle.storage_model.specs.Records.{record_in, weight};
+ghost use Rattle.storage_model.specs.Requests.{is_sound};
+ghost use Rattle.storage_model.specs.Verdict.{outcome_of};
+ghost use Rattle.storage_model.specs.Fetches.{fetch_verdict};
+ghost use Rattle.storage_model.specs.Decisions.{changed, with_joined};
+ghost use Rattle.kind_store.specs.Steps.{IsCounted};
+ghost use Rattle.kind_store.specs.Written.{written};
 
-use crate::decide::decide_on;
 use crate::fetch::fetch_from;
-use crate::weigh::weight_of;
+use crate::kinds::Kinds;
+use crate::record::Record;
+use crate::resource_table::ResourceTable;
 use data_models::Config;
-use reload_base::{List, NoMemory};
-use reload_ids::ResourceId;
+use reload_base::{List, NoMemory, TryCopy};
+use reload_ids::{NodeId, ResourceId};
 use std::alloc::Global;
-use std::collections::BTreeMap;
 use std::marker::Model;
-use storage_model::{FetchAsked, FetchVerdict, KindRecord, Record, StoreAsked, StoreVerdict};
+use storage_model::{FetchAsked, FetchVerdict, StoreAsked, StoreVerdict};
 
 /// The records of one peer, by resource. Contracts see the map from resources to records.
 #[derive(Debug, Drop)]
 pub struct Shelf {
     alloc: Global,
-    records: BTreeMap<u128, Record>,
+    table: ResourceTable<Record>,
 }
 
 impl Model for Shelf {
     ghost use Rattle.std.specs.Ordering.{nat_cmp};
     ghost use Rattle.std.specs.FinMap as map;
     ghost use Rattle.std.specs.Coded.{coded_ℕ};
-    ghost use Rattle.storage_model.specs.declared.record.Record.{Record};
-    ghost use Rattle.storage_model.specs.contracts.record.Record as of_record;
+    ghost use Rattle.storage_model.specs.Records as records;
+    ghost use Rattle.kind_store.specs.Codes.{record_code};
 
-    ghost Value = { map.FinMap nat_cmp Record };
+    ghost Value = { records.Map };
 
-    ghost coded = { map.code coded_ℕ of_record.the_row.coded };
+    ghost coded = { map.code coded_ℕ record_code };
 
-    ghost use Rattle.kind_store.specs.Light.{AreLight};
-
-    ghost view = { λ s. map.from_entries s.records.entries };
-
-    ghost invariant = { λ s. AreLight s.records };
+    ghost view = { λ s. s.table };
 }
 
 impl Shelf {
-    ghost use Rattle.storage_model.specs.Records.{record_in, weight};
-    ghost use Rattle.storage_model.specs.Verdict.{outcome_of, changed};
-    ghost use Rattle.storage_model.specs.Fetches.{fetch_verdict};
-    ghost use Rattle.kind_store.specs.Counted.{IsCounted};
-
     /// A shelf without records, which takes no memory yet.
     pub fn new(alloc: Global) -> Shelf
         ensures { result ≡ map.empty }
     {
         Shelf {
             alloc,
-            records: BTreeMap::new(alloc),
+            table: ResourceTable::new(alloc),
         }
     }
 
-    /// Decides on a Store for a resource (RFC 6940, section 7.4.1), at a clock in milliseconds. An answer that is
-    /// kept for the same origin and transaction id is given again. After `NoMemory` the shelf is as before.
+    /// Decides on a Store for a resource (RFC 6940, section 7.4.1), at a clock in milliseconds. An
+    /// answer that is
+    /// kept for the same origin and transaction id is given again. It needs a request that makes
+    /// sense (`sound`).
+    /// After `NoMemory` the shelf is as before.
     pub fn decide_store(
         &mut self,
-        cfg: &Config,
+        config: &Config,
         now: u64,
-        r: ResourceId,
-        q: &StoreAsked,
+        resource: ResourceId,
+        origin: NodeId,
+        id: u64,
+        request: &StoreAsked,
     ) -> Result<StoreVerdict, NoMemory>
         requires clock { now < 2 ^ 62 }
-        requires counted { IsCounted (record_in self.old r.0) }
-        ensures verdict { IfOk result (λ v. v ≡ (outcome_of cfg.now now r.0 (record_in self.old r.0) q.now).verdict) }
-        ensures shelf { OnOk result (
-            self.new ≡ changed self.old r.0 (outcome_of cfg.now now r.0 (record_in self.old r.0) q.now).next) }
+        requires counted { IsCounted (record_in self.old resource.0) }
+        requires sound { is_sound config.now request.now ≡ true }
+        ensures verdict { IfOk result (λ v. v
+            ≡ (outcome_of config.now now resource.0
+            (record_in self.old resource.0) origin id request.now).verdict) }
+        ensures shelf { OnOk result (self.new ≡ changed self.old resource.0
+            (outcome_of config.now now resource.0
+            (record_in self.old resource.0) origin id request.now).next) }
         ensures err { OnErr result (self.new ≡ self.old) }
     {
-        let alloc = self.alloc;
-        match self.records.get_mut(&r.0) {
-            Some(held) => decide_on(alloc, cfg, now, r.0, held, q),
-            None => {
-                let mut fresh = empty_record(alloc);
-                let verdict = decide_on(alloc, cfg, now, r.0, &mut fresh, q)?;
-                self.records.insert(r.0, fresh)?;
-                Ok(verdict)
-            }
+        let mut record = Record::empty(self.alloc);
+        if self.table.exchange(resource.0, &mut record) {
+            let verdict = record.decide(self.alloc, config, now, resource, origin, id, request);
+            self.table.exchange(resource.0, &mut record);
+            return verdict;
         }
+        let verdict = record.decide(self.alloc, config, now, resource, origin, id, request)?;
+        if record.turn() == 0 {
+            return Ok(verdict);
+        }
+        self.table.insert(resource.0, record)?;
+        Ok(verdict)
     }
 
-    /// Answers a Fetch for a resource (RFC 6940, section 7.4.2), at a clock in milliseconds: its values, each with the
-    /// rest of its lifetime, or an error code. An expired value is given as a gap.
+    /// Answers a Fetch for a resource (RFC 6940, section 7.4.2), at a clock in milliseconds: its
+    /// values, each with the
+    /// rest of its lifetime, or why it is refused. An expired value is given as a gap.
     pub fn answer_fetch(
         &self,
         alloc: Global,
-        cfg: &Config,
+        config: &Config,
         now: u64,
-        r: ResourceId,
-        q: &FetchAsked,
+        resource: ResourceId,
+        request: &FetchAsked,
     ) -> Result<FetchVerdict, NoMemory>
-        requires { now < 2 ^ 62 }
-        ensures { IfOk result (λ v. v ≡ fetch_verdict cfg.now now (record_in self.now r.0).kinds q.now) }
+        ensures { IfOk result (λ v. v ≡ fetch_verdict config.now now
+            (record_in self.now resource.0).kinds request.now) }
     {
-        fetch_from(alloc, cfg, now, self.kinds(r), q)
-    }
-
-    /// What a resource has of each kind, by rising Kind-ID.
-    fn kinds(&self, r: ResourceId) -> &[KindRecord]
-        ensures { result.now ≡ (record_in self.now r.0).kinds }
-    {
-        match self.records.get(&r.0) {
-            Some(held) => held.kinds.as_slice(),
-            None => &[],
+        match self.table.get(resource.0) {
+            Some(record) => fetch_from(alloc, config, now, &record.kinds, request),
+            None => fetch_from(alloc, config, now, &Kinds::new(alloc), request),
         }
     }
 
     /// The record of a resource, where one was written.
-    pub fn held(&self, r: ResourceId) -> Option<&Record>
-        ensures { option_copied result ≡ map.get self.now r.0 }
+    pub fn held(&self, resource: ResourceId) -> Option<&Record>
+        ensures { option_copied result ≡ map.get self.now resource.0 }
     {
-        self.records.get(&r.0)
+        self.table.get(resource.0)
     }
 
-    /// What the kinds of a resource weigh, in this profile's bytes: at most 131,072.
-    pub fn weight(&self, r: ResourceId) -> u64
-        ensures value { result ≡ weight (record_in self.now r.0).kinds }
-        ensures small { result ≤ 131072 }
+    /// Notes that a peer joined with a resource as its Node-ID: true the first time, when the
+    /// record's turn rises.
+    /// After `NoMemory` the shelf is as before.
+    pub fn set_joined(&mut self, resource: ResourceId) -> Result<bool, NoMemory>
+        requires { (record_in self.old resource.0).turn < 2 ^ 63 }
+        ensures first { IfOk result (λ first. first ≡ is_some (with_joined
+            (record_in self.old resource.0))) }
+        ensures shelf { OnOk result (
+            self.new ≡ changed self.old resource.0 (with_joined (record_in self.old resource.0))) }
+        ensures err { OnErr result (self.new ≡ self.old) }
     {
-        match self.records.get(&r.0) {
-            Some(held) => weight_of(held.kinds.as_slice()),
+        let mut record = Record::empty(self.alloc);
+        if self.table.exchange(resource.0, &mut record) {
+            let first = record.set_joined();
+            self.table.exchange(resource.0, &mut record);
+            return Ok(first);
+        }
+        record.set_joined();
+        self.table.insert(resource.0, record)?;
+        Ok(true)
+    }
+
+    /// Puts a given record in the place of the one of a resource, exactly where the given turn is
+    /// greater, and answers
+    /// whether it did. After `NoMemory` the shelf is as before.
+    pub fn merge_record(&mut self, resource: ResourceId, given: Record) -> Result<bool, NoMemory>
+        ensures taken { IfOk result (λ taken. taken ≡ nat_lt
+            (record_in self.old resource.0).turn given.turn) }
+        ensures shelf { OnOk result (self.new ≡ (if nat_lt
+            (record_in self.old resource.0).turn given.turn
+            then map.insert self.old resource.0 given else self.old)) }
+        ensures err { OnErr result (self.new ≡ self.old) }
+    {
+        if given.turn() <= self.turn_of(resource) {
+            return Ok(false);
+        }
+        self.table.insert(resource.0, given)?;
+        Ok(true)
+    }
+
+    /// How often the record of a resource changed.
+    fn turn_of(&self, resource: ResourceId) -> u64
+        ensures { result ≡ (record_in self.now resource.0).turn }
+    {
+        match self.table.get(resource.0) {
+            Some(record) => record.turn(),
             None => 0,
         }
     }
-}
 
-/// The record of a resource that nobody wrote.
-fn empty_record(alloc: Global) -> Record
-    ensures { result ≡ records.empty_record }
-{
-    Record {
-        turn: 0,
-        joined: false,
-        kinds: List::new(alloc),
-        kept: List::new(alloc),
+    /// A copy of the record of a resource, where one is held.
+    pub fn copy_record(
+        &self,
+        alloc: Global,
+        resource: ResourceId,
+    ) -> Result<Option<Record>, NoMemory>
+        ensures { IfOk result (λ copy. copy ≡ map.get self.now resource.0) }
+    {
+        match self.table.get(resource.0) {
+            Some(record) => Ok(Some(record.copy(alloc)?)),
+            None => Ok(None),
+        }
+    }
+
+    /// Makes a record that of a resource again, or takes the record away where there is none to put
+    /// back. No memory is
+    /// taken, so there must be a record in whose place it is put.
+    pub fn put_back(&mut self, resource: ResourceId, old: Option<Record>)
+        requires { IsSome old → IsSome (map.get self.old resource.0) }
+        ensures { self.new ≡ option_map_or (map.insert self.old resource.0) old
+            (map.remove self.old resource.0) }
+    {
+        match old {
+            Some(record) => self.put_in_place(resource, record),
+            None => {
+                self.table.remove(resource.0);
+            }
+        }
+    }
+
+    fn put_in_place(&mut self, resource: ResourceId, given: Record)
+        requires { IsSome (map.get self.old resource.0) }
+        ensures { self.new ≡ map.insert self.old resource.0 given }
+    {
+        let mut other = given;
+        self.table.exchange(resource.0, &mut other);
+    }
+
+    /// What the kinds of a resource weigh, in this profile's bytes: at most [`MAX_WEIGHT`].
+    pub fn weight(&self, resource: ResourceId) -> u64
+        ensures value { result ≡ weight (record_in self.now resource.0).kinds }
+        ensures small { result ≤ MAX_WEIGHT }
+    {
+        match self.table.get(resource.0) {
+            Some(record) => record.weight(),
+            None => 0,
+        }
+    }
+
+    /// The resources whose turn isn't 0, rising.
+    #[tactic(auto, unfolding(crate::specs::Written::written))]
+    pub fn resources(&self, alloc: Global) -> Result<List<ResourceId>, NoMemory>
+        ensures { IfOk result (λ all. all ≡ written self.now) }
+    {
+        let mut all = List::new(alloc);
+        for (id, held) in self.table.tree() {
+            if held.turn() > 0 {
+                all.push(ResourceId(*id))?;
+            }
+        }
+        Ok(all)
     }
 }

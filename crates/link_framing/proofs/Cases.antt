@@ -8,10 +8,11 @@ use Rattle.wire_core.specs.declared.bad.Reason.TheVariants.{BadValue}
 use Rattle.wire_core.specs.Part.{Part, part}
 use Rattle.wire_core.specs.Spelling.{number, AreBytes}
 use Rattle.wire_core.specs.Reading.{refused}
-use Rattle.wire_core.proofs.Bytes.{AreBytes-take, AreBytes-rest, AreBytes-behind, length-number, number-big_number, big_number-lt}
+use Rattle.wire_core.specs.Laws.Bytes.{AreBytes-take, AreBytes-rest, AreBytes-behind, length-number, number-big_number, big_number-lt}
+use Rattle.wire_core.specs.declared.limits.TheConstants.{MAX_MESSAGE}
 use Rattle.link_framing.specs.declared.frame.Frame.{Frame}
 use Rattle.link_framing.specs.declared.frame.Frame.TheVariants.{Payload, Ack}
-use Rattle.link_framing.specs.Framing.{most, frame, IsFrame}
+use Rattle.link_framing.specs.Framing.{frame, IsFrame}
 use Rattle.link_framing.specs.Reading.{payload_at, ack_at, frame_at}
 use Rattle.link_framing.specs.Finds.{Says}
 use Rattle.link_framing.specs.Streams.{BeginsWith, IsFront, IsPartial, IsBadType, IsTooLarge, length_in}
@@ -37,7 +38,7 @@ pub one_byte : (b : ℕ) → b < 256 → number 1 b ≡ b ∷ []
 unfolding number
 one_byte b lt = let e : b % 256 ≡ b = omega arith in grind (arith, e)
 
-payload_front : (tail : List ℕ) → AreBytes tail → 7 ≤ length tail → length_in (128 ∷ tail) ≤ most → length tail < 7 + length_in (128 ∷ tail) → IsFront (128 ∷ tail)
+payload_front : (tail : List ℕ) → AreBytes tail → 7 ≤ length tail → length_in (128 ∷ tail) ≤ MAX_MESSAGE → length tail < 7 + length_in (128 ∷ tail) → IsFront (128 ∷ tail)
 unfolding frame
 payload_front tail fits there within lt =
     let len = length_in (128 ∷ tail) in
@@ -55,7 +56,7 @@ payload_front tail fits there within lt =
     record {
       whole = Payload sequence message;
       missing = zeros;
-      fits = (big_number-lt 4 (take 4 tail) (AreBytes-take 4 tail fits), omega (arith, filled));
+      fits = (big_number-lt 4 (take 4 tail) (AreBytes-take 4 tail fits), omega (arith, filled), AreBytes-append (drop 7 tail) zeros (AreBytes-drop 7 tail fits) (AreBytes-zeros k));
       some = omega (arith, length-replicate {A = ℕ} k 0);
       spelled = ap (λ (n : ℕ). number 1 128 ++ (number 4 sequence ++ (number 3 n ++ message))) filled
           ∙ ap (λ (r : List ℕ). number 1 128 ++ (r ++ (number 3 len ++ message))) four
@@ -106,7 +107,7 @@ payload_judged : (place : ℕ) (tail : List ℕ) → AreBytes tail → Judged pl
 payload_judged place tail fits =
     elim (cases_lt (length tail) 7) [
       | inl few ↦ let e = payload_short (place + 1) tail few in rw e.1 (inr (refl, omega arith))
-      | inr there ↦ elim (cases_lt most (length_in (128 ∷ tail))) [
+      | inr there ↦ elim (cases_lt MAX_MESSAGE (length_in (128 ∷ tail))) [
         | inl large ↦ rw (payload_large 128 (place + 1) tail there large) (record { code = refl; there = omega arith; large = large }, omega arith)
         | inr within ↦ elim (cases_lt (length tail) (7 + length_in (128 ∷ tail))) [
           | inl lt ↦ rw (payload_past 128 (place + 1) tail there within lt) (inl (payload_front tail fits there within lt))

@@ -7,12 +7,12 @@ use Rattle.wire_core.specs.declared.bad.Bad.{Bad}
 use Rattle.wire_core.specs.declared.bad.Reason.{Reason}
 use Rattle.wire_core.specs.declared.bad.Reason.TheVariants.{Short, LengthPast, TooLarge}
 use Rattle.wire_core.specs.Part.{Part, part}
-use Rattle.wire_core.specs.Reading.{allowed, place_at, bytes_at, number_at, limited_at, stretch_at}
+use Rattle.wire_core.specs.Reading.{allowed, place_at, bytes_at, number_at, limited_at, stretch_at, filled_at, pair_at}
 use Rattle.wire_core.specs.Spelling.{AreBytes}
+use Rattle.wire_core.specs.declared.limits.TheConstants.{MAX_MESSAGE}
 use Rattle.link_framing.specs.declared.frame.Frame.{Frame}
 use Rattle.link_framing.specs.declared.frame.Frame.TheVariants.{Payload, Ack}
-use Rattle.link_framing.specs.Framing.{most}
-use Rattle.link_framing.specs.Reading.{payload_at, ack_at, frame_at}
+use Rattle.link_framing.specs.Reading.{carried_at, payload_at, ack_at, frame_at}
 use Rattle.link_framing.specs.Streams.{length_in}
 use Rattle.link_framing.proofs.Layouts.{behind_code}
 
@@ -40,11 +40,11 @@ length_in_lt b tail fits = omega (arith, fits 4, fits 5, fits 6)
 -- ---- a payload behind its first byte
 
 no_sequence : (place : ℕ) (tail : List ℕ) → length tail < 4 → payload_at (part place tail) ≡ Err (bad (place + length tail) Short)
-unfolding payload_at
+unfolding payload_at pair_at
 no_sequence place tail lt = let e = number_short 4 place tail lt in rw e refl
 
 no_length : (place : ℕ) (tail : List ℕ) → 4 ≤ length tail → length tail < 7 → payload_at (part place tail) ≡ Err (bad (place + 4 + length (drop 4 tail)) Short)
-unfolding payload_at place_at limited_at
+unfolding payload_at pair_at carried_at place_at limited_at
 no_length place tail le lt =
     let a = number_there 4 place tail le in
     let b = number_short 3 (place + 4) (drop 4 tail) (omega (arith, length-drop 4 tail)) in
@@ -66,29 +66,29 @@ module _ (b place : ℕ) (tail : List ℕ) (there : 7 ≤ length tail) where
       let len = number_there 3 (place + 4) (drop 4 tail) (omega (arith, length-drop 4 tail)) in
       len ∙ ap (λ (x : ℕ). Ok (x, part (place + 4 + 3) (drop 3 (drop 4 tail)))) (length_there b tail there) ∙ ap (λ (rest : List ℕ). Ok (length_in (b ∷ tail), part (place + 4 + 3) rest)) (drop-drop 3 4 tail)
 
-  pub payload_large : most < length_in (b ∷ tail) → payload_at (part place tail) ≡ Err (bad (place + 4) TooLarge)
-  unfolding payload_at place_at limited_at allowed
-  payload_large large = let e : leb (length_in (b ∷ tail)) most ≡ false = lt-leb _ _ large in rw (sequence_there, three_there, e) refl
+  pub payload_large : MAX_MESSAGE < length_in (b ∷ tail) → payload_at (part place tail) ≡ Err (bad (place + 4) TooLarge)
+  unfolding payload_at pair_at carried_at place_at limited_at allowed
+  payload_large large = let e : leb (length_in (b ∷ tail)) MAX_MESSAGE ≡ false = lt-leb _ _ large in rw (sequence_there, three_there, e) refl
 
-  pub payload_past : length_in (b ∷ tail) ≤ most → length tail < 7 + length_in (b ∷ tail) → payload_at (part place tail) ≡ Err (bad (place + 4) LengthPast)
-  unfolding payload_at place_at limited_at allowed stretch_at
+  pub payload_past : length_in (b ∷ tail) ≤ MAX_MESSAGE → length tail < 7 + length_in (b ∷ tail) → payload_at (part place tail) ≡ Err (bad (place + 4) LengthPast)
+  unfolding payload_at pair_at carried_at place_at limited_at allowed filled_at stretch_at
   payload_past within lt =
-      let e : leb (length_in (b ∷ tail)) most ≡ true = le-leb _ _ within in
+      let e : leb (length_in (b ∷ tail)) MAX_MESSAGE ≡ true = le-leb _ _ within in
       let f : ltb (length (drop 7 tail)) (length_in (b ∷ tail)) ≡ true = lt-ltb _ _ (omega (arith, length-drop 7 tail)) in
       rw (sequence_there, three_there, e, f) refl
 
-  pub payload_whole : length_in (b ∷ tail) ≤ most → 7 + length_in (b ∷ tail) ≤ length tail → (x : Frame × Part) × (payload_at (part place tail) ≡ Ok x)
-  unfolding payload_at place_at limited_at allowed stretch_at
+  pub payload_whole : length_in (b ∷ tail) ≤ MAX_MESSAGE → 7 + length_in (b ∷ tail) ≤ length tail → (x : Frame × Part) × (payload_at (part place tail) ≡ Ok x)
+  unfolding payload_at pair_at carried_at place_at limited_at allowed filled_at stretch_at
   payload_whole within le =
       let len = length_in (b ∷ tail) in
-      let e : leb (length_in (b ∷ tail)) most ≡ true = le-leb _ _ within in
+      let e : leb (length_in (b ∷ tail)) MAX_MESSAGE ≡ true = le-leb _ _ within in
       let f : ltb (length (drop 7 tail)) (length_in (b ∷ tail)) ≡ false = le-ltb _ _ (omega (arith, length-drop 7 tail)) in
       ((Payload (big_number 4 (take 4 tail)) (take len (drop 7 tail)), part (place + 4 + 3 + len) (drop len (drop 7 tail))), rw (sequence_there, three_there, e, f) refl)
 
 -- ---- an ack behind its first byte
 
 pub ack_short : (place : ℕ) (tail : List ℕ) → length tail < 8 → (at : ℕ) × (ack_at (part place tail) ≡ Err (bad at Short))
-unfolding ack_at
+unfolding ack_at pair_at
 ack_short place tail lt =
     elim (cases_lt (length tail) 4) [
       | inl few ↦ (place + length tail, let e = number_short 4 place tail few in rw e refl)
@@ -96,7 +96,7 @@ ack_short place tail lt =
     ]
 
 pub ack_whole : (place : ℕ) (tail : List ℕ) → 8 ≤ length tail → (x : Frame × Part) × (ack_at (part place tail) ≡ Ok x)
-unfolding ack_at
+unfolding ack_at pair_at
 ack_whole place tail le =
     let a = number_there 4 place tail (omega arith) in
     let b = number_there 4 (place + 4) (drop 4 tail) (omega (arith, length-drop 4 tail)) in

@@ -5,10 +5,11 @@ use Rattle.std.proofs.lemmas.List.{length-replicate, take_at, drop_at}
 use Rattle.byteorder.specs.Endian.{big_number}
 use Rattle.wire_core.specs.Spelling.{number, vector, AreBytes}
 use Rattle.wire_core.specs.Part.{part}
-use Rattle.wire_core.proofs.Bytes.{length-number, big_number-number}
+use Rattle.wire_core.specs.Laws.Bytes.{length-number, big_number-number}
+use Rattle.wire_core.specs.declared.limits.TheConstants.{MAX_MESSAGE}
 use Rattle.link_framing.specs.declared.frame.Frame.{Frame}
 use Rattle.link_framing.specs.declared.frame.Frame.TheVariants.{Payload, Ack}
-use Rattle.link_framing.specs.Framing.{most, frame, IsFrame}
+use Rattle.link_framing.specs.Framing.{frame, IsFrame}
 use Rattle.link_framing.specs.Reading.{frame_at}
 use Rattle.link_framing.specs.Streams.{BeginsFrame, BeginsWith, IsBadType, length_in, least_message, least_whole, wanted, IsMissing}
 use Rattle.link_framing.proofs.Layouts.{behind_code}
@@ -39,7 +40,7 @@ length_in-le bytes more = omega (arith, at_least bytes more 5, at_least bytes mo
 
 -- ---- what a frame has at the least
 
-payload_length : (s : ℕ) (m rest : List ℕ) → length m ≤ most → length_in (frame (Payload s m) ++ rest) ≡ length m
+payload_length : (s : ℕ) (m rest : List ℕ) → length m ≤ MAX_MESSAGE → length_in (frame (Payload s m) ++ rest) ≡ length m
 unfolding frame
 payload_length s m rest within =
     let tail = number 4 s ++ (number 3 (length m) ++ (m ++ rest)) in
@@ -66,9 +67,9 @@ unfolding frame
 ack_code s r rest bytes e = subst (BeginsWith 129) (sym (e ∙ ap (λ (b : List ℕ). (b ++ (number 4 s ++ number 4 r)) ++ rest) (one_byte 129 (lit< tt)))) refl
 
 -- what begins with 128, with 129, or with nothing yet
-payload_needs : (b : ℕ) (tail more : List ℕ) → b ≡ 128 → BeginsFrame ((b ∷ tail) ++ more) → (length_in (b ∷ tail) ≤ most) × (8 + length_in (b ∷ tail) ≤ length (b ∷ tail) + length more)
+payload_needs : (b : ℕ) (tail more : List ℕ) → b ≡ 128 → BeginsFrame ((b ∷ tail) ++ more) → (length_in (b ∷ tail) ≤ MAX_MESSAGE) × (8 + length_in (b ∷ tail) ≤ length (b ∷ tail) + length more)
 payload_needs b tail more is begun = go begun.first begun.rest begun.fits begun.spelled where
-  go : (f : Frame) (rest : List ℕ) → IsFrame f → (b ∷ tail) ++ more ≡ frame f ++ rest → (length_in (b ∷ tail) ≤ most) × (8 + length_in (b ∷ tail) ≤ length (b ∷ tail) + length more)
+  go : (f : Frame) (rest : List ℕ) → IsFrame f → (b ∷ tail) ++ more ≡ frame f ++ rest → (length_in (b ∷ tail) ≤ MAX_MESSAGE) × (8 + length_in (b ∷ tail) ≤ length (b ∷ tail) + length more)
   go (Payload s m) rest fits e =
       let len : length_in ((b ∷ tail) ++ more) ≡ length m = ap length_in e ∙ payload_length s m rest fits.1 in
       let le = length_in-le (b ∷ tail) more in
@@ -89,7 +90,7 @@ some_needs more begun = go begun.first begun.rest begun.spelled where
 
 -- ---- zeros make a frame
 
-payload_made : (b : ℕ) (tail : List ℕ) (k : ℕ) → AreBytes (b ∷ tail) → b ≡ 128 → length_in (b ∷ tail) ≤ most → 8 + length_in (b ∷ tail) ≤ length (b ∷ tail) + k → BeginsFrame ((b ∷ tail) ++ replicate k 0)
+payload_made : (b : ℕ) (tail : List ℕ) (k : ℕ) → AreBytes (b ∷ tail) → b ≡ 128 → length_in (b ∷ tail) ≤ MAX_MESSAGE → 8 + length_in (b ∷ tail) ≤ length (b ∷ tail) + k → BeginsFrame ((b ∷ tail) ++ replicate k 0)
 payload_made b tail k fits is within le =
     let zeros = replicate k 0 in
     let bytes = AreBytes-append (b ∷ tail) zeros fits (AreBytes-zeros k) in
@@ -111,9 +112,9 @@ ack_made b tail k fits is le =
 
 payload_missing : (b : ℕ) (tail : List ℕ) → AreBytes (b ∷ tail) → b ≡ 128 → IsMissing (b ∷ tail) (8 + least_message (b ∷ tail) - length (b ∷ tail))
 payload_missing b tail fits is =
-    elim (cases_lt most (length_in (b ∷ tail))) [
+    elim (cases_lt MAX_MESSAGE (length_in (b ∷ tail))) [
       | inl large ↦
-          let e : leb (length_in (b ∷ tail)) most ≡ false = lt-leb _ _ large in
+          let e : leb (length_in (b ∷ tail)) MAX_MESSAGE ≡ false = lt-leb _ _ large in
           let k = 8 - length (b ∷ tail) in
           rw e (inr (
             λ more begun. omega (arith, large, (payload_needs b tail more is begun).0),
@@ -125,7 +126,7 @@ payload_missing b tail fits is =
             },
           ))
       | inr within ↦
-          let e : leb (length_in (b ∷ tail)) most ≡ true = le-leb _ _ within in
+          let e : leb (length_in (b ∷ tail)) MAX_MESSAGE ≡ true = le-leb _ _ within in
           let k = 8 + length_in (b ∷ tail) - length (b ∷ tail) in
           rw e (inl (record {
             more = replicate k 0;
@@ -155,7 +156,7 @@ nothing_missing : IsMissing [] 8
 nothing_missing = inl (record {
   more = frame (Payload 0 []);
   count = payload_size 0 [];
-  reached = record { first = Payload 0 []; rest = []; fits = (lit< tt, omega arith); spelled = sym (append-nil (frame (Payload 0 []))) };
+  reached = record { first = Payload 0 []; rest = []; fits = (lit< tt, omega arith, λ i. lit< tt); spelled = sym (append-nil (frame (Payload 0 []))) };
   least = λ other begun. some_needs other begun;
 })
 

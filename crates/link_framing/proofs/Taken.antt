@@ -1,5 +1,5 @@
 -- What the front of a stream gives, and that it gives nothing else.
-use Rattle.std.proofs.Common.{◌≡◌, ℕ, ◌+◌, ◌-◌, ◌≤◌, ◌↔◌, List, ◌++◌, length, drop, Option, Some, None, Result, Ok, Err, refl, sym, ap, subst, ◌∙◌, length-append, arith}
+use Rattle.std.proofs.Common.{◌≡◌, ℕ, ◌+◌, ◌-◌, ◌≤◌, ◌↔◌, ◌⊎◌, inl, inr, List, ◌++◌, length, drop, Option, Some, None, Result, Ok, Err, refl, sym, ap, subst, ◌∙◌, length-append, arith}
 use Rattle.std.specs.Result.{IsOk}
 use Rattle.std.proofs.lemmas.List.{drop_at}
 use Rattle.wire_core.specs.declared.bad.Bad.{Bad}
@@ -10,11 +10,12 @@ use Rattle.link_framing.specs.declared.frame.FrameView.{FrameView}
 use Rattle.link_framing.specs.Views.{seen}
 use Rattle.link_framing.specs.declared.frame.FrameFault.{FrameFault}
 use Rattle.link_framing.specs.declared.frame.FrameFault.TheVariants as faults
-use Rattle.link_framing.specs.Framing.{frame}
+use Rattle.link_framing.specs.Framing.{frame, IsFrame}
+use Rattle.link_framing.specs.Held.{Held}
 use Rattle.link_framing.specs.Reading.{frame_at}
-use Rattle.link_framing.specs.Finds.{Finds, Given, Says}
-use Rattle.link_framing.specs.Streams.{BeginsFrame, IsPartial, IsBadType, IsTooLarge}
-use Rattle.link_framing.proofs.Layouts.{frame_takes}
+use Rattle.link_framing.specs.Finds.{Finds, IsFound, Gives, Says}
+use Rattle.link_framing.specs.Streams.{BeginsFrame, IsPartial, IsBadType, IsTooLarge, Takes}
+use Rattle.link_framing.proofs.Layouts.{frame_takes, frame_once}
 use Rattle.link_framing.proofs.Cases.{Judged, judged, frame_not_bad, frame_not_large, frame_not_partial, partial_not_bad, partial_not_large, bad_not_large}
 
 -- ---- what the reading says
@@ -56,30 +57,53 @@ begins_not_bad bytes b is = frame_not_bad b.first b.rest bytes b.fits b.spelled 
 begins_not_large : (bytes : List ℕ) → BeginsFrame bytes → IsTooLarge bytes → ⊥
 begins_not_large bytes b is = frame_not_large b.first b.rest bytes b.fits b.spelled is
 
-pub none_iff : (r : Result (Option Frame) FrameFault) (place : ℕ) (bytes : List ℕ) → Given r place bytes → (r ≡ Ok None) ↔ IsPartial bytes
-none_iff (Ok None) place bytes given = (λ _. given, λ _. refl)
-none_iff (Ok (Some f)) place bytes given = (λ e. absurd cc, λ is. absurd (begins_not_partial bytes given is))
-none_iff (Err (faults.BadType at)) place bytes given = (λ e. absurd cc, λ is. absurd (partial_not_bad bytes is given.0))
-none_iff (Err (faults.TooLarge at)) place bytes given = (λ e. absurd cc, λ is. absurd (partial_not_large bytes is given.0))
-none_iff (Err faults.NoMemory) place bytes given = (λ e. absurd cc, λ is. absurd (begins_not_partial bytes given is))
+-- the frame in front is found
+pub found_only : (r : Result (Option (FrameView × ℕ)) Bad) (place : ℕ) (bytes : List ℕ) → Finds r place bytes
+    → (f : Frame) (rest : List ℕ) → IsFrame f → bytes ≡ frame f ++ rest → IsFound r f
+found_only (Ok (Some found)) place bytes is f rest fits spelled =
+    let same = (frame_once (seen found.0) f (drop found.1 bytes) rest is.0 fits (sym is.2 ∙ spelled)).0 in
+    (same, is.1 ∙ ap (λ (g : Frame). length (frame g)) same)
+found_only (Ok None) place bytes is f rest fits spelled = frame_not_partial f rest bytes fits spelled is
+found_only (Err fault) place bytes (inl is) f rest fits spelled = frame_not_bad f rest bytes fits spelled is.0
+found_only (Err fault) place bytes (inr is) f rest fits spelled = frame_not_large f rest bytes fits spelled is.0
+
+taken_begins : (f : Frame) (old new : Held) → Takes f old.left new.left → BeginsFrame old.left.bytes
+taken_begins f old new t = record { first = f; rest = new.left.bytes; fits = t.fits; spelled = t.bytes }
 
 abbrev answers : Result (Option Frame) FrameFault → Result (Option Frame) FrameFault
 answers r = r
 
-pub bad_type_iff : (r : Result (Option Frame) FrameFault) (place : ℕ) (bytes : List ℕ) → Given r place bytes
-    → (at : ℕ) → (r ≡ Err (faults.BadType at)) ↔ (IsBadType bytes × (at ≡ place))
-bad_type_iff (Ok None) place bytes given at = (λ e. absurd cc, λ is. absurd (partial_not_bad bytes given is.0))
-bad_type_iff (Ok (Some f)) place bytes given at = (λ e. absurd cc, λ is. absurd (begins_not_bad bytes given is.0))
-bad_type_iff (Err (faults.BadType there)) place bytes given at =
-    (λ e. let same : there ≡ at = cc in (given.0, sym same ∙ given.1), λ is. ap (λ (n : ℕ). answers (Err (faults.BadType n))) (given.1 ∙ sym is.1))
-bad_type_iff (Err (faults.TooLarge there)) place bytes given at = (λ e. absurd cc, λ is. absurd (bad_not_large bytes is.0 given.0))
-bad_type_iff (Err faults.NoMemory) place bytes given at = (λ e. absurd cc, λ is. absurd (begins_not_bad bytes given is.0))
+-- the frame in front is taken
+pub taken_only : (r : Result (Option Frame) FrameFault) (old new : Held) → Gives r old new
+    → (f : Frame) (rest : List ℕ) → IsFrame f → old.left.bytes ≡ frame f ++ rest → (r ≡ Ok (Some f)) ⊎ (r ≡ Err faults.NoMemory)
+taken_only (Ok (Some g)) old new is f rest fits spelled =
+    inl (ap (λ (h : Frame). answers (Ok (Some h))) (frame_once g f new.left.bytes rest is.fits fits (sym is.bytes ∙ spelled)).0)
+taken_only (Ok None) old new is f rest fits spelled = absurd (frame_not_partial f rest old.left.bytes fits spelled is.0)
+taken_only (Err (faults.BadType at)) old new is f rest fits spelled = absurd (frame_not_bad f rest old.left.bytes fits spelled is.0.0)
+taken_only (Err (faults.TooLarge at)) old new is f rest fits spelled = absurd (frame_not_large f rest old.left.bytes fits spelled is.0.0)
+taken_only (Err faults.NoMemory) old new is f rest fits spelled = inr refl
 
-pub too_large_iff : (r : Result (Option Frame) FrameFault) (place : ℕ) (bytes : List ℕ) → Given r place bytes
-    → (at : ℕ) → (r ≡ Err (faults.TooLarge at)) ↔ (IsTooLarge bytes × (at ≡ place + 5))
-too_large_iff (Ok None) place bytes given at = (λ e. absurd cc, λ is. absurd (partial_not_large bytes given is.0))
-too_large_iff (Ok (Some f)) place bytes given at = (λ e. absurd cc, λ is. absurd (begins_not_large bytes given is.0))
-too_large_iff (Err (faults.BadType there)) place bytes given at = (λ e. absurd cc, λ is. absurd (bad_not_large bytes given.0 is.0))
-too_large_iff (Err (faults.TooLarge there)) place bytes given at =
-    (λ e. let same : there ≡ at = cc in (given.0, sym same ∙ given.1), λ is. ap (λ (n : ℕ). answers (Err (faults.TooLarge n))) (given.1 ∙ sym is.1))
-too_large_iff (Err faults.NoMemory) place bytes given at = (λ e. absurd cc, λ is. absurd (begins_not_large bytes given is.0))
+pub none_iff : (r : Result (Option Frame) FrameFault) (old new : Held) → Gives r old new → (r ≡ Ok None) ↔ IsPartial old.left.bytes
+none_iff (Ok None) old new gave = (λ _. gave.0, λ _. refl)
+none_iff (Ok (Some f)) old new gave = (λ e. absurd cc, λ is. absurd (begins_not_partial old.left.bytes (taken_begins f old new gave) is))
+none_iff (Err (faults.BadType at)) old new gave = (λ e. absurd cc, λ is. absurd (partial_not_bad old.left.bytes is gave.0.0))
+none_iff (Err (faults.TooLarge at)) old new gave = (λ e. absurd cc, λ is. absurd (partial_not_large old.left.bytes is gave.0.0))
+none_iff (Err faults.NoMemory) old new gave = (λ e. absurd cc, λ is. absurd (begins_not_partial old.left.bytes gave.0 is))
+
+pub bad_type_iff : (r : Result (Option Frame) FrameFault) (old new : Held) → Gives r old new
+    → (at : ℕ) → (r ≡ Err (faults.BadType at)) ↔ (IsBadType old.left.bytes × (at ≡ old.left.place))
+bad_type_iff (Ok None) old new gave at = (λ e. absurd cc, λ is. absurd (partial_not_bad old.left.bytes gave.0 is.0))
+bad_type_iff (Ok (Some f)) old new gave at = (λ e. absurd cc, λ is. absurd (begins_not_bad old.left.bytes (taken_begins f old new gave) is.0))
+bad_type_iff (Err (faults.BadType there)) old new gave at =
+    (λ e. let same : there ≡ at = cc in (gave.0.0, sym same ∙ gave.0.1), λ is. ap (λ (n : ℕ). answers (Err (faults.BadType n))) (gave.0.1 ∙ sym is.1))
+bad_type_iff (Err (faults.TooLarge there)) old new gave at = (λ e. absurd cc, λ is. absurd (bad_not_large old.left.bytes is.0 gave.0.0))
+bad_type_iff (Err faults.NoMemory) old new gave at = (λ e. absurd cc, λ is. absurd (begins_not_bad old.left.bytes gave.0 is.0))
+
+pub too_large_iff : (r : Result (Option Frame) FrameFault) (old new : Held) → Gives r old new
+    → (at : ℕ) → (r ≡ Err (faults.TooLarge at)) ↔ (IsTooLarge old.left.bytes × (at ≡ old.left.place + 5))
+too_large_iff (Ok None) old new gave at = (λ e. absurd cc, λ is. absurd (partial_not_large old.left.bytes gave.0 is.0))
+too_large_iff (Ok (Some f)) old new gave at = (λ e. absurd cc, λ is. absurd (begins_not_large old.left.bytes (taken_begins f old new gave) is.0))
+too_large_iff (Err (faults.BadType there)) old new gave at = (λ e. absurd cc, λ is. absurd (bad_not_large old.left.bytes gave.0.0 is.0))
+too_large_iff (Err (faults.TooLarge there)) old new gave at =
+    (λ e. let same : there ≡ at = cc in (gave.0.0, sym same ∙ gave.0.1), λ is. ap (λ (n : ℕ). answers (Err (faults.TooLarge n))) (gave.0.1 ∙ sym is.1))
+too_large_iff (Err faults.NoMemory) old new gave at = (λ e. absurd cc, λ is. absurd (begins_not_large old.left.bytes gave.0 is.0))

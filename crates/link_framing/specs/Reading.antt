@@ -1,26 +1,29 @@
 -- Reading a frame from the front of what is held of a stream.
-use Rattle.std.specs.Prelude.{◌==◌, if◌then◌else◌}
+use Rattle.std.specs.Prelude.{ℕ, List, ◌==◌, if◌then◌else◌}
 use Rattle.wire_core.specs.declared.bad.Reason.TheVariants.{BadValue}
-use Rattle.wire_core.specs.Reading.{Reader, ◌>>=◌, done, refused, place_at, number_at, limited_at, stretch_at}
+use Rattle.wire_core.specs.Reading.{Reader, ◌>>=◌, done, refused, place_at, rest_at, number_at, limited_at, filled_at, pair_at}
+use Rattle.wire_core.specs.declared.limits.TheConstants.{MAX_MESSAGE}
 use Rattle.link_framing.specs.declared.frame.Frame.{Frame}
 use Rattle.link_framing.specs.declared.frame.Frame.TheVariants.{Payload, Ack}
-use Rattle.link_framing.specs.Framing.{most}
+
+-- the message that a payload carries
+unfoldable pub carried_at : Reader (List ℕ)
+carried_at = do
+  place ← place_at
+  len ← limited_at 3 MAX_MESSAGE
+  filled_at place len rest_at
 
 -- a payload behind its first byte
 unfoldable pub payload_at : Reader Frame
 payload_at = do
-  sequence ← number_at 4
-  place ← place_at
-  len ← limited_at 3 most
-  part ← stretch_at place len
-  done (Payload sequence part.bytes)
+  fields ← pair_at (number_at 4) carried_at
+  done (Payload fields.0 fields.1)
 
 -- an ack behind its first byte
 unfoldable pub ack_at : Reader Frame
 ack_at = do
-  sequence ← number_at 4
-  received ← number_at 4
-  done (Ack sequence received)
+  fields ← pair_at (number_at 4) (number_at 4)
+  done (Ack fields.0 fields.1)
 
 -- a frame; any other first byte is a bad value
 unfoldable pub frame_at : Reader Frame

@@ -2,8 +2,9 @@
 use Rattle.std.specs.Prelude.{◌≡◌, ◌≢◌, ℕ, ◌+◌, ◌-◌, ◌*◌, ◌<◌, ◌≤◌, ◌⊎◌, List, [], ◌∷◌, ◌++◌, length, slice_index, ◌==◌, nat_le, if◌then◌else◌}
 use Rattle.std.specs.List.{flat_map, AllByRecursion}
 use Rattle.wire_core.specs.Part.{Part}
+use Rattle.wire_core.specs.declared.limits.TheConstants.{MAX_MESSAGE}
 use Rattle.link_framing.specs.declared.frame.Frame.{Frame}
-use Rattle.link_framing.specs.Framing.{most, frame, IsFrame}
+use Rattle.link_framing.specs.Framing.{frame, IsFrame}
 
 -- the first byte is this one
 abbrev pub BeginsWith : ℕ → List ℕ → Type 0
@@ -25,7 +26,7 @@ pub record IsFront (bytes : List ℕ) : Type 0 where
   pub some : 0 < length missing
   pub spelled : frame whole ≡ bytes ++ missing
 
--- Less than a frame. Fewer than 8 bytes that begin with 128 count too, whatever the bytes of their length say.
+-- Less than a frame; fewer than 8 bytes that begin with 128 count too, whatever their length says.
 abbrev pub IsPartial : List ℕ → Type 0
 IsPartial bytes = IsFront bytes ⊎ (BeginsWith 128 bytes × (length bytes < 8))
 
@@ -42,19 +43,19 @@ length_in bytes = 65536 * slice_index bytes 5 + 256 * slice_index bytes 6 + slic
 pub record IsTooLarge (bytes : List ℕ) : Type 0 where
   pub code : BeginsWith 128 bytes
   pub there : 8 ≤ length bytes
-  pub large : most < length_in bytes
+  pub large : MAX_MESSAGE < length_in bytes
 
 -- no frame stands in front: bytes are missing, or none can come any more
 abbrev pub IsEnd : List ℕ → Type 0
 IsEnd bytes = IsPartial bytes ⊎ (IsBadType bytes ⊎ IsTooLarge bytes)
 
--- A stream is these frames one after the other and then a rest, which is less than a frame or begins with a fault.
+-- A stream is these frames and then a rest, which is less than a frame or begins with a fault.
 pub record Stream (frames : List Frame) (bytes rest : List ℕ) : Type 0 where
   pub whole : bytes ≡ flat_map frame frames ++ rest
   pub each : AllByRecursion IsFrame frames
   pub end : IsEnd rest
 
--- ---- a reader holds a part of the stream, the front of which was taken
+-- ---- a reader has a part of the stream, the front of which was taken
 
 -- a piece more of the stream
 abbrev pub fed : List ℕ → Part → Part
@@ -93,7 +94,7 @@ taken_by [] = []
 taken_by (Fed piece ∷ calls) = taken_by calls
 taken_by (Took first ∷ calls) = first ∷ taken_by calls
 
--- what a new reader holds
+-- what was fed to a new reader
 abbrev pub nothing : Part
 nothing = record { place = 0; bytes = [] }
 
@@ -106,19 +107,21 @@ pub record IsLeastMore (Holds : List ℕ → Type 0) (bytes : List ℕ) (n : ℕ
   pub reached : Holds (bytes ++ more)
   pub least : (other : List ℕ) → Holds (bytes ++ other) → n ≤ length other
 
--- the least number of bytes that are missing to a frame or, where none can come any more, to a fault
+-- the least number of bytes that are missing to a frame or, where none can come, to a fault
 abbrev pub IsMissing : List ℕ → ℕ → Type 0
 IsMissing bytes n = IsLeastMore BeginsFrame bytes n
-    ⊎ (((more : List ℕ) → BeginsFrame (bytes ++ more) → ⊥) × IsLeastMore (λ more. IsBadType more ⊎ IsTooLarge more) bytes n)
+    ⊎ (((more : List ℕ) → BeginsFrame (bytes ++ more) → ⊥)
+    × IsLeastMore (λ more. IsBadType more ⊎ IsTooLarge more) bytes n)
 
 -- the least length of a payload's message, as far as it is there, and 0 where that is too large
 abbrev pub least_message : List ℕ → ℕ
-least_message bytes = if nat_le (length_in bytes) most then length_in bytes else 0
+least_message bytes = if nat_le (length_in bytes) MAX_MESSAGE then length_in bytes else 0
 
--- the least number of bytes of a frame that begins so or, where its length is too large, of the fault
+-- the least number of bytes of a frame that begins so or, where its length is too large, of a fault
 unfoldable pub least_whole : List ℕ → ℕ
 least_whole [] = 8
-least_whole (b ∷ bytes) = if b == 128 then 8 + least_message (b ∷ bytes) else (if b == 129 then 9 else 0)
+least_whole (b ∷ bytes) =
+    if b == 128 then 8 + least_message (b ∷ bytes) else (if b == 129 then 9 else 0)
 
 -- the number of bytes that surely are missing to a frame or, where none can come, to the fault
 abbrev pub wanted : List ℕ → ℕ

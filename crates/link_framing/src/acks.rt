@@ -38,8 +38,8 @@ impl Acks {
         }
     }
 
-    /// The mask for the ack of payload `n`: which of the 31 payloads before it were heard so far, however late they
-    /// came (RFC 6940, section 6.6.2).
+    /// The mask for the ack of payload `n`: which of the 31 payloads before it were heard so far,
+    /// however late they came (this profile).
     pub fn mask(&self, n: u32) -> u32
         ensures { IsMask self.now n result }
     {

@@ -11,16 +11,18 @@ use wire_core::{put_bytes, put_u8, put_u32};
 /// What one node sends to another over their link (RFC 6940, section 6.6.2).
 #[derive(Debug, Drop)]
 pub enum Frame {
-    /// A message of at most 262,144 bytes.
+    /// A message of at most `MAX_MESSAGE` bytes.
     Payload { sequence: u32, message: Bytes },
-    /// Says that the payload of this sequence was heard. `received` marks those of the 31 before it that were.
+    /// Says that the payload of this sequence was heard. `received` marks those of the 31 before it
+    /// that were (this profile): bit k the one k before, counted from the lowest bit as 0, which is
+    /// clear.
     Ack { sequence: u32, received: u32 },
 }
 
 /// A frame as it lies in bytes, which lend its message.
 #[derive(Clone, Copy, Debug)]
 pub enum FrameView<'a> {
-    /// A message of at most 262,144 bytes.
+    /// A message of at most `MAX_MESSAGE` bytes.
     Payload { sequence: u32, message: &'a [u8] },
     /// Says which payloads were heard, as `Frame::Ack` does.
     Ack { sequence: u32, received: u32 },
@@ -47,9 +49,10 @@ impl<'a> FrameView<'a> {
 /// Why a stream gives no frame.
 #[derive(Clone, Copy, Debug, PartialEq, Eq)]
 pub enum FrameFault {
-    /// A frame's first byte is neither 128 nor 129. The place is that byte's, counted from the stream's front.
+    /// A frame's first byte is neither 128 nor 129. The place is that byte's, counted from the
+    /// stream's front.
     BadType(u64),
-    /// A message's length is over 262,144. The place is the first byte of that length.
+    /// A message's length is over `MAX_MESSAGE`. The place is the first byte of that length.
     TooLarge(u64),
     /// There is no memory for the message.
     NoMemory,

@@ -5,7 +5,7 @@ ghost use Rattle.link_framing.specs.Reading.{payload_at, ack_at, frame_at};
 ghost use Rattle.link_framing.specs.Views.{Sees};
 
 use crate::frame::FrameView;
-use wire_core::{Bad, Cursor, Reason};
+use wire_core::{Bad, Cursor, MAX_MESSAGE, Reason};
 
 /// Takes a frame. Where more bytes are wanted, the fault is `Short` or `LengthPast`.
 #[tactic(auto, unfolding(crate::specs::Reading::frame_at))]
@@ -24,20 +24,20 @@ pub fn take_frame<'a>(from: &mut Cursor<'a>) -> Result<FrameView<'a>, Bad>
 }
 
 /// What is behind a payload's first byte.
-#[tactic(auto, unfolding(crate::specs::Reading::payload_at))]
+#[tactic(auto, unfolding(crate::specs::Reading::payload_at, crate::specs::Reading::carried_at, wire_core::specs::Reading::pair_at, wire_core::specs::Reading::filled_at, wire_core::specs::Reading::allowed))]
 fn take_payload<'a>(from: &mut Cursor<'a>) -> Result<FrameView<'a>, Bad>
     ensures { Sees result from.new (payload_at from.old) }
 {
     let sequence = from.take_u32()?;
     let place = from.place();
-    let len = from.take_limited(3, 262_144)?;
+    let len = from.take_limited(3, MAX_MESSAGE)?;
     let mut part = from.take_stretch(place, len)?;
     let message = part.rest();
     Ok(FrameView::Payload { sequence, message })
 }
 
 /// What is behind an ack's first byte.
-#[tactic(auto, unfolding(crate::specs::Reading::ack_at))]
+#[tactic(auto, unfolding(crate::specs::Reading::ack_at, wire_core::specs::Reading::pair_at))]
 fn take_ack<'a>(from: &mut Cursor<'a>) -> Result<FrameView<'a>, Bad>
     ensures { Sees result from.new (ack_at from.old) }
 {

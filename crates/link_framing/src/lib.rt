@@ -13,5 +13,5 @@ mod tests;
 pub use acks::Acks;
 pub use frame::{Frame, FrameFault, FrameView, encode_frame};
 pub use front::first_frame;
-pub use laws::{any_cutting, faults_stay, fed_is_taken_and_held, one_reading};
+pub use laws::{any_cutting, faults_stay, fed_is_taken_and_held, frames_are_layouts, one_reading};
 pub use reader::FrameReader;

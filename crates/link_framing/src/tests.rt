@@ -2,6 +2,7 @@ use crate::{Acks, Frame, FrameFault, FrameReader, encode_frame};
 use reload_base::Bytes;
 use std::alloc::Global;
 use std::test::Fail;
+use wire_core::MAX_MESSAGE;
 
 /// A payload of sequence 1 with the message `abc`, and its ack.
 const STREAM: [u8; 20] = [
@@ -19,7 +20,7 @@ fn feed(reader: &mut FrameReader, piece: &[u8]) -> Result<(), Fail> {
 /// The bytes of a frame, whose message isn't too large.
 fn spelled(alloc: Global, frame: &Frame) -> Result<Bytes, Fail> {
     match frame {
-        Frame::Payload { message, .. } if message.len() > 262_144 => Err(Fail::from(
+        Frame::Payload { message, .. } if message.len() > MAX_MESSAGE as usize => Err(Fail::from(
             "a large message",
         )),
         _ => Ok(encode_frame(alloc, frame)?),
@@ -55,6 +56,7 @@ fn a_stream_byte_by_byte(rt: HostRuntime) -> Result<(), Fail> {
             }
             None => assert!(rt; i != 10 && i != 19, "no frame at {i}"),
         }
+        assert_eq!(rt; reader.kept(), if i < 10 { i + 1 } else { (i - 10) % 9 });
     }
     Ok(())
 }

@@ -8,13 +8,13 @@ use std::env::{Env, FillError};
 use std::process::ExitCode;
 use std::str;
 
-// The most bytes of a word that some form of a call may have.
-const LONGEST: usize = 64;
+// No form of a call has a word of more bytes.
+const MAX_WORD: usize = 64;
 
-// A word of the call: number 0 is the program's own name. A word that is too long or isn't text stands as the
-// empty word, which no form of a call has either.
+// A word of the call: number 0 is the program's own name. It is handed over whole: one that is
+// longer, or isn't text, stands as the empty word, which no form of a call has either.
 fn word<R: Env + AllocGlobal>(rt: &R, index: usize) -> Result<Option<String>, AllocError> {
-    let mut room = [0; LONGEST];
+    let mut room = [0; MAX_WORD];
     let length = match rt.arg(index, &mut room) {
         Ok(length) => length,
         Err(FillError::TooLong) => 0,

@@ -1,7 +1,8 @@
 pub mod Firsts
-pub mod Keeps
+pub mod Fronts
+pub mod Hears
 pub mod Loops
-pub mod Prefixes
+pub mod Nodes
 pub mod Runs
-pub mod Times
+pub mod Sizes
 pub mod Tops

@@ -1,129 +1,273 @@
--- The decisions of a run are legal over one map, and each Store acts at most once.
-use Rattle.std.proofs.Common.{◌≡◌, ℕ, zero, suc, ◌+◌, ◌-◌, List, [], ◌∷◌, ◌++◌, ◌||◌, length, Bool, true, false, not, Option, Some, None, refl, sym, subst, arith, eqb, ltb, cond, append_assoc}
-use Rattle.std.specs.Prelude.{slice_get, position}
-use Rattle.std.specs.List.{AllByRecursion}
-use Rattle.text_words.specs.Lines.{ended}
-use Rattle.storage_model.specs.Decisions.{Decision, kinds_of, IsLegalFrom, IsLegal, IsSoundKinds, AreSound, IsOnce}
-use Rattle.storage_model.proofs.Once.{once}
-use Rattle.storage_model.proofs.LastPuts.{given_is_last_put}
+-- What every event keeps, and what holds of the decisions of a whole run.
+use Rattle.std.proofs.Common.{◌≡◌, ℕ, ◌+◌, ◌≤◌, List, [], ◌∷◌, ◌++◌, length, Bool, true, false, cond, Option, Some, None, refl, sym, subst, append_assoc, length-append, arith}
+use Rattle.std.specs.Prelude.{map, unwrap_or}
+use Rattle.std.specs.Ordering.{nat_cmp}
+use Rattle.std.specs.FinMap.{get-empty}
+use Rattle.std.specs.List.{AllByRecursion, list_all}
+use Rattle.std.specs.Option.{option_map, option_map_or}
+use Rattle.std.proofs.lemmas.Bool.{and_parts}
+use Rattle.data_models.specs.declared.config.Config.{Config}
+use Rattle.data_models.specs.declared.config.DataModel.{DataModel}
+use Rattle.data_models.specs.declared.config.DataModel.TheVariants.{Single, Array, Dictionary}
+use Rattle.data_models.specs.declared.config.KindDef.{KindDef}
+use Rattle.data_models.specs.declared.stored_data.SlotKey.{SlotKey}
+use Rattle.data_models.specs.declared.stored_data.SlotKey.TheVariants.{Whole, Index, End, Name}
+use Rattle.data_models.specs.Configs.{IsConfig, kind_of, model_in}
+use Rattle.storage_model.specs.declared.request.Asked.{Asked}
+use Rattle.storage_model.specs.declared.request.Asked.TheVariants as asked
+use Rattle.storage_model.specs.declared.request.StoreAsked.{StoreAsked}
+use Rattle.storage_model.specs.declared.request.FetchAsked.{FetchAsked}
+use Rattle.storage_model.specs.declared.request.Value.{Value}
+use Rattle.storage_model.specs.Requests.{is_sound, is_sound_fetch}
+use Rattle.storage_model.specs.Decisions.{Decision, IsLegalFrom, IsLegal, IsOnce}
+use Rattle.storage_model.specs.Laws.{IsKeyOf, AreSound}
+use Rattle.storage_model.proofs.OnceLaw.{sound_front}
+use Rattle.storage_model.proofs.Whole.{once}
+use Rattle.storage_model.proofs.Lasts.{last_given}
+use Rattle.storage_model.proofs.Permitted.{permitted_all}
 use Rattle.scenario_text.specs.declared.scenario.Scenario.{Scenario}
+use Rattle.scenario_text.specs.declared.scenario.DeclaredNode.{DeclaredNode}
 use Rattle.scenario_text.specs.declared.scenario.Event.{Event}
-use Rattle.scenario_text.specs.declared.scenario.StoreEvent.{StoreEvent}
-use Rattle.scenario_text.specs.declared.scenario.FetchEvent.{FetchEvent}
 use Rattle.scenario_text.specs.declared.scenario.EventKind.{EventKind}
 use Rattle.scenario_text.specs.declared.scenario.EventKind.TheVariants.{Clock, Store, Fetch, Deliver, Drain}
-use Rattle.scenario_text.specs.Transcript.{refused_line}
+use Rattle.scenario_text.specs.declared.scenario.StoreEvent.{StoreEvent}
+use Rattle.scenario_text.specs.declared.scenario.FetchEvent.{FetchEvent}
+use Rattle.scenario_text.specs.declared.scenario.GroupWords.{GroupWords}
+use Rattle.scenario_text.specs.declared.scenario.ValueWord.{ValueWord}
+use Rattle.scenario_text.specs.declared.scenario.ResourceName.{ResourceName}
+use Rattle.scenario_text.specs.Values.{IsSlotKey, IsValue}
+use Rattle.scenario_text.specs.Groups.{IsGroup}
+use Rattle.scenario_text.specs.Desk.{has_key, admits_group, are_declared, admits}
+use Rattle.scenario_text.specs.Sayings.{IsEvent}
+use Rattle.scenario_text.specs.Scenarios.{IsEventOf, IsScenario}
 use Rattle.overlay_command.specs.declared.desk.Desk.{Desk}
 use Rattle.overlay_command.specs.declared.desk.Issued.{Issued}
-use Rattle.overlay_command.specs.Top.{GivesLastPuts}
-use Rattle.overlay_command.specs.Desks.{Done, quiet, then_on, empty_desk, store_of, fetch_of, issued, hearing, heard_at, after_decision, decision_on, delivered, drained, stepped, decisions_from, decisions}
+use Rattle.overlay_command.specs.Desks.{Done, quiet, empty_desk, node_of, stored_of, value_of, kind_of_group, store_of, specifier_of, fetch_of, issued_as, issued, asked_by, delivered, drained, stepped, decisions_from, decisions}
+use Rattle.overlay_command.specs.Due.{GivesLastPuts, GivesAtDecisions, HoldsPermitted, InTime}
+use Rattle.overlay_command.specs.Bounds.{model_under, AreKeysOf, IsSoundRequest, AreSoundRequests, IsKept}
+use Rattle.overlay_command.proofs.Hears.{AreAt, Hears, hears_delivered, hears_drained, sound-append}
 
--- each request that was issued is sound
-abbrev pub AreSoundRequests : List Issued → Type 0
-AreSoundRequests requests = AllByRecursion (λ i. IsSoundKinds (kinds_of i.asked)) requests
+-- ---- what every event keeps
 
--- what is done from a desk decides as the one map does, and sound requests alone
-pub record IsFair (s : Scenario) (desk : Desk) (done : Done) : Type 0 where
-  pub legal : (later : List Decision) → IsLegalFrom s.config done.desk.shelf later → IsLegalFrom s.config desk.shelf (done.decided ++ later)
-  pub requests : AreSoundRequests done.desk.requests
-  pub sound : AreSound done.decided
-
-fair_quiet : (s : Scenario) (desk : Desk) → AreSoundRequests desk.requests → IsFair s desk (quiet desk)
-fair_quiet s desk all = record { legal = λ later h. h; requests = all; sound = tt }
-
-AreSound-append : (ds es : List Decision) → AreSound ds → AreSound es → AreSound (ds ++ es)
-AreSound-append [] es first later = later
-AreSound-append (d ∷ ds) es first later = (first.0, AreSound-append ds es first.1 later)
-
-fair_both : (s : Scenario) (desk : Desk) (first : Done) (next : Desk → Done) → IsFair s desk first → IsFair s first.desk (next first.desk) → IsFair s desk (then_on first next)
-fair_both s desk first next one two = record {
-  legal = λ later h. subst (λ (ds : List Decision). IsLegalFrom s.config desk.shelf ds) (sym (append_assoc first.decided (next first.desk).decided later)) (one.legal ((next first.desk).decided ++ later) (two.legal later h));
-  requests = two.requests;
-  sound = AreSound-append first.decided (next first.desk).decided one.sound two.sound;
+-- nothing was counted at the start
+pub IsKept-start : (config : Config) → IsConfig config → IsKept config 0 empty_desk
+IsKept-start config is = record {
+  steady = record { configured = is; paired = refl; sound = tt; within = λ r. rw (get-empty nat_cmp r) (record { turn = omega arith; generations = λ kind. rw (get-empty nat_cmp kind) (omega arith) }) };
+  issued = omega arith;
+  decided = omega arith;
+  clock = omega arith;
 }
 
-sound_get : (requests : List Issued) (k : ℕ) (i : Issued) → AreSoundRequests requests → slice_get requests k ≡ Some i → IsSoundKinds (kinds_of i.asked)
-sound_get [] k i all e = absurd cc
-sound_get (j ∷ requests) zero i all e = let same : j ≡ i = cc in subst (λ (x : Issued). IsSoundKinds (kinds_of x.asked)) same all.0
-sound_get (j ∷ requests) (suc k) i all e = sound_get requests k i all.1 e
+-- an event decides as the one map does, on sound requests, at the desk's clock, which doesn't fall, and the bounds stay
+pub record Moves (s : Scenario) (n : ℕ) (desk : Desk) (done : Done) : Type 0 where
+  pub kept : IsKept s.config (n + 1) done.desk
+  pub clock : desk.clock ≤ done.desk.clock
+  pub legal : (later : List Decision) → IsLegalFrom done.desk.shelf later → IsLegalFrom desk.shelf (done.decided ++ later)
+  pub sound : AreSound (model_under s.config) done.decided
+  pub times : AreAt desk.clock done.decided
 
--- a decision is that of the desk's record, which changes as the one map does
-fair_hearing : (s : Scenario) (desk : Desk) (at : ℕ) (i : Issued) → AreSoundRequests desk.requests → IsSoundKinds (kinds_of i.asked) → IsFair s desk (hearing s desk at i)
-unfolding hearing after_decision decision_on IsLegalFrom
-fair_hearing s desk at i all one = record { legal = λ later h. (refl, h); requests = all; sound = (one, tt) }
+moves_hearing : (s : Scenario) (n most : ℕ) (desk : Desk) (done : Done) → most ≤ 1000000 → IsKept s.config n desk → Hears s most desk done → Moves s n desk done
+moves_hearing s n most desk done le kept h = record {
+  kept = record {
+    steady = h.steady;
+    issued = rw h.requests (omega (arith, kept.issued));
+    decided = omega (arith, h.decisions, kept.decided);
+    clock = rw h.clock (omega (arith, kept.clock));
+  };
+  clock = omega (arith, h.clock);
+  legal = h.legal;
+  sound = h.sound;
+  times = h.times;
+}
 
-fair_place : (s : Scenario) (desk : Desk) (at : ℕ) (found : Option Issued) → slice_get desk.requests at ≡ found → AreSoundRequests desk.requests → IsFair s desk (heard_at s desk at)
-unfolding heard_at
-fair_place s desk at None e all = rw e (fair_quiet s desk all)
-fair_place s desk at (Some i) e all = rw e (fair_hearing s desk at i all (sound_get desk.requests at i all e))
+moves_quiet : (s : Scenario) (n : ℕ) (desk after : Desk) → desk.clock ≤ after.clock → after.shelf ≡ desk.shelf → IsKept s.config (n + 1) after → Moves s n desk (quiet after)
+moves_quiet s n desk after clock shelf kept = record { kept = kept; clock = clock; legal = λ later h. subst (λ m. IsLegalFrom m later) shelf h; sound = tt; times = tt }
 
-fair_heard : (s : Scenario) (desk : Desk) (at : ℕ) → AreSoundRequests desk.requests → IsFair s desk (heard_at s desk at)
-fair_heard s desk at all = fair_place s desk at (slice_get desk.requests at) refl all
+kept_clock : (config : Config) (n ms : ℕ) (desk : Desk) → ms ≤ 1000000000 → IsKept config n desk → IsKept config (n + 1) (record desk { clock = desk.clock + ms })
+kept_clock config n ms desk le kept = record {
+  steady = record { configured = kept.steady.configured; paired = kept.steady.paired; sound = kept.steady.sound; within = kept.steady.within };
+  issued = omega (arith, kept.issued);
+  decided = omega (arith, kept.decided);
+  clock = omega (arith, kept.clock);
+}
 
-fair_chosen : (s : Scenario) (desk : Desk) (b : Bool) (text : List ℕ) (k : ℕ) → AreSoundRequests desk.requests → IsFair s desk (cond b (record { desk = desk; text = text; decided = [] }) (heard_at s desk (k - 1)))
-fair_chosen s desk true text k all = record { legal = λ later h. h; requests = all; sound = tt }
-fair_chosen s desk false text k all = fair_heard s desk (k - 1) all
+kept_more : (config : Config) (n : ℕ) (desk : Desk) → IsKept config n desk → IsKept config (n + 1) desk
+kept_more config n desk kept = record { steady = kept.steady; issued = omega (arith, kept.issued); decided = omega (arith, kept.decided); clock = omega (arith, kept.clock) }
 
-fair_delivered : (s : Scenario) (desk : Desk) (line k : ℕ) → AreSoundRequests desk.requests → IsFair s desk (delivered s desk line k)
-unfolding delivered
-fair_delivered s desk line k all = fair_chosen s desk (eqb k 0 || ltb (length desk.requests) k) (ended (refused_line line)) k all
+-- bounds of n events are bounds of more
+pub IsKept-more : (config : Config) (n m : ℕ) (desk : Desk) → n ≤ m → IsKept config n desk → IsKept config m desk
+IsKept-more config n m desk le kept = record { steady = kept.steady; issued = omega (arith, kept.issued); decided = omega (arith, kept.decided); clock = omega (arith, kept.clock) }
 
-fair_next : (s : Scenario) (n : ℕ) (desk : Desk) (first : Option ℕ) → position not desk.heard ≡ first → AreSoundRequests desk.requests → ((d : Desk) → AreSoundRequests d.requests → IsFair s d (drained s n d)) → IsFair s desk (drained s (suc n) desk)
-unfolding drained
-fair_next s n desk None e all later = rw e (fair_quiet s desk all)
-fair_next s n desk (Some at) e all later =
-    let first = fair_heard s desk at all in
-    rw e (fair_both s desk (heard_at s desk at) (drained s n) first (later (heard_at s desk at).desk first.requests))
+sound_push : (config : Config) (requests : List Issued) (i : Issued) → AreSoundRequests config requests → IsSoundRequest config i.asked → AreSoundRequests config (requests ++ i ∷ [])
+sound_push config [] i all one = (one, tt)
+sound_push config (j ∷ requests) i all one = (all.0, sound_push config requests i all.1 one)
 
-fair_drained : (s : Scenario) (n : ℕ) (desk : Desk) → AreSoundRequests desk.requests → IsFair s desk (drained s n desk)
-unfolding drained
-fair_drained s zero desk all = fair_quiet s desk all
-fair_drained s (suc n) desk all = fair_next s n desk (position not desk.heard) refl all (λ d sound. fair_drained s n d sound)
-
--- the client's requests are sound
-sound_store : (s : Scenario) (k : ℕ) (e : StoreEvent) → IsSoundKinds (kinds_of (store_of s k e).asked)
-unfolding store_of IsSoundKinds
-sound_store s k e = (omega arith, tt, tt)
-
-sound_fetch : (s : Scenario) (k : ℕ) (e : FetchEvent) → IsSoundKinds (kinds_of (fetch_of s k e).asked)
-unfolding fetch_of IsSoundKinds
-sound_fetch s k e = tt
-
-sound_push : (requests : List Issued) (i : Issued) → AreSoundRequests requests → IsSoundKinds (kinds_of i.asked) → AreSoundRequests (requests ++ i ∷ [])
-sound_push [] i all one = (one, tt)
-sound_push (j ∷ requests) i all one = (all.0, sound_push requests i all.1 one)
-
-fair_issued : (s : Scenario) (desk : Desk) (i : Issued) → AreSoundRequests desk.requests → IsSoundKinds (kinds_of i.asked) → IsFair s desk (issued desk i)
+kept_issued : (config : Config) (n : ℕ) (desk : Desk) (i : Issued) → IsSoundRequest config i.asked → IsKept config n desk → IsKept config (n + 1) (issued desk i)
 unfolding issued
-fair_issued s desk i all one = record { legal = λ later h. h; requests = sound_push desk.requests i all one; sound = tt }
+kept_issued config n desk i is kept = record {
+  steady = record {
+    configured = kept.steady.configured;
+    paired = omega (arith, length-append {A = Issued}, kept.steady.paired, length-append desk.heard (false ∷ []));
+    sound = sound_push config desk.requests i kept.steady.sound is;
+    within = kept.steady.within;
+  };
+  issued = omega (arith, length-append {A = Issued}, kept.issued);
+  decided = omega (arith, kept.decided);
+  clock = omega (arith, kept.clock);
+}
 
-fair_step : (s : Scenario) (desk : Desk) (line : ℕ) (what : EventKind) → AreSoundRequests desk.requests → IsFair s desk (stepped s desk line what)
-fair_step s desk line (Clock ms) all = record { legal = λ later h. h; requests = all; sound = tt }
-fair_step s desk line (Store e) all = fair_issued s desk (store_of s (length desk.requests + 1) e) all (sound_store s (length desk.requests + 1) e)
-fair_step s desk line (Fetch e) all = fair_issued s desk (fetch_of s (length desk.requests + 1) e) all (sound_fetch s (length desk.requests + 1) e)
-fair_step s desk line (Deliver k) all = fair_delivered s desk line k all
-fair_step s desk line (Drain n) all = fair_drained s n desk all
+-- ---- sound requests
 
-legal_from : (s : Scenario) (desk : Desk) (es : List Event) → AreSoundRequests desk.requests → IsLegalFrom s.config desk.shelf (decisions_from s desk es) × AreSound (decisions_from s desk es)
-unfolding decisions_from IsLegalFrom
-legal_from s desk [] all = (tt, tt)
-legal_from s desk (e ∷ es) all =
-    let step = fair_step s desk e.line e.what all in
-    let later = legal_from s (stepped s desk e.line e.what).desk es step.requests in
-    (step.legal (decisions_from s (stepped s desk e.line e.what).desk es) later.0, AreSound-append (stepped s desk e.line e.what).decided (decisions_from s (stepped s desk e.line e.what).desk es) step.sound later.1)
+key_of_model : (model : DataModel) (key : SlotKey) → IsSlotKey key → has_key model key ≡ true → IsKeyOf model key
+key_of_model Single Whole is e = tt
+key_of_model Single (Index i) is e = absurd cc
+key_of_model Single End is e = absurd cc
+key_of_model Single (Name name) is e = absurd cc
+key_of_model Array Whole is e = absurd cc
+key_of_model Array (Index i) is e = is
+key_of_model Array End is e = tt
+key_of_model Array (Name name) is e = absurd cc
+key_of_model Dictionary Whole is e = absurd cc
+key_of_model Dictionary (Index i) is e = absurd cc
+key_of_model Dictionary End is e = absurd cc
+key_of_model Dictionary (Name name) is e = tt
 
--- the decisions of a whole run
-pub run_is_legal : (s : Scenario) → IsLegal s.config (decisions s)
-run_is_legal s = (legal_from s empty_desk s.events tt).0
+value_keys : (client : DeclaredNode) (model : DataModel) (words : List ValueWord) → AllByRecursion IsValue words → list_all (λ (w : ValueWord). has_key model w.key) words ≡ true
+    → AllByRecursion (λ (v : Value). IsKeyOf model v.stored.key) (map (value_of client) words)
+unfolding value_of stored_of
+value_keys client model [] is e = tt
+value_keys client model (w ∷ words) is e =
+    let parts = and_parts (has_key model w.key) _ e in
+    (key_of_model model w.key is.0.key parts.0, value_keys client model words is.1 parts.1)
 
-pub run_is_once : (s : Scenario) → IsOnce s.config (decisions s)
-run_is_once s = once s.config (decisions s) ((legal_from s empty_desk s.events tt).1)
+-- a group's keys are of the model of its kind, which is declared
+group_by : (client : DeclaredNode) (g : GroupWords) (found : Option KindDef) → IsGroup g → option_map_or (λ (k : KindDef). list_all (λ (w : ValueWord). has_key k.model w.key) g.values) found false ≡ true
+    → AllByRecursion (λ (v : Value). IsKeyOf (unwrap_or (option_map (λ (k : KindDef). k.model) found) Single) v.stored.key) (map (value_of client) g.values)
+group_by client g None is e = absurd cc
+group_by client g (Some kind) is e = value_keys client kind.model g.values is.values e
 
-AreSound-front : (ds es : List Decision) → AreSound (ds ++ es) → AreSound ds
-AreSound-front [] es all = tt
-AreSound-front (d ∷ ds) es all = (all.0, AreSound-front ds es all.1)
+group_keys : (config : Config) (client : DeclaredNode) (groups : List GroupWords) → AllByRecursion IsGroup groups → list_all (admits_group config) groups ≡ true → AreKeysOf config (map (kind_of_group client) groups)
+unfolding kind_of_group admits_group model_in
+group_keys config client [] is e = tt
+group_keys config client (g ∷ groups) is e =
+    let parts = and_parts (admits_group config g) _ e in
+    (group_by client g (kind_of config g.kind) is.0 parts.0, group_keys config client groups is.1 parts.1)
 
-pub run_gives : (s : Scenario) → GivesLastPuts s.config (decisions s)
-run_gives s before after same now resource kind times =
-    let sound = subst (λ (ds : List Decision). AreSound ds) (sym same) ((legal_from s empty_desk s.events tt).1) in
-    given_is_last_put s.config before now resource kind (AreSound-front before after sound) times
+sound_store_by : (config : Config) (request : StoreAsked) (b : Bool) → is_sound config request ≡ b → AreKeysOf config request.kinds → IsSoundRequest config (cond b (asked.Store request) asked.Bad)
+sound_store_by config request true e keys = record { sound = e; keys = keys }
+sound_store_by config request false e keys = tt
+
+sound_store : (config : Config) (client : DeclaredNode) (e : StoreEvent) → AllByRecursion IsGroup e.groups → list_all (admits_group config) e.groups ≡ true → IsSoundRequest config (store_of config client e)
+unfolding store_of
+sound_store config client e is admitted =
+    let request : StoreAsked = record { strange = false; sequence = unwrap_or e.seq config.sequence; kinds = map (kind_of_group client) e.groups } in
+    sound_store_by config request (is_sound config request) refl (group_keys config client e.groups is admitted)
+
+sound_fetch_by : (config : Config) (request : FetchAsked) (b : Bool) → IsSoundRequest config (cond b (asked.Fetch request) asked.Bad)
+sound_fetch_by config request true = tt
+sound_fetch_by config request false = tt
+
+sound_fetch : (config : Config) (e : FetchEvent) → IsSoundRequest config (fetch_of config e)
+unfolding fetch_of
+sound_fetch config e =
+    let request : FetchAsked = record { strange = false; sequence = unwrap_or e.seq config.sequence; max = unwrap_or e.max 0; specifiers = map specifier_of e.specifiers } in
+    sound_fetch_by config request (is_sound_fetch request)
+
+-- a client's request keeps the bounds, if there is such a client
+moves_asked_by : (s : Scenario) (n : ℕ) (desk : Desk) (found : Option DeclaredNode) (number peer : ℕ) (resource : ResourceName) (request : DeclaredNode → Asked) → node_of s number ≡ found
+    → ((client : DeclaredNode) → IsSoundRequest s.config (request client)) → IsKept s.config n desk → Moves s n desk (quiet (asked_by s desk number peer resource request))
+unfolding asked_by
+moves_asked_by s n desk None number peer resource request e all kept = rw e (moves_quiet s n desk desk (omega arith) refl (kept_more s.config n desk kept))
+moves_asked_by s n desk (Some client) number peer resource request e all kept =
+    let i : Issued = issued_as (length desk.requests + 1) client peer resource (request client) in
+    let is : IsSoundRequest s.config i.asked = unfold issued_as in all client in
+    let more = kept_issued s.config n desk i is kept in
+    rw e (moves_quiet s n desk (issued desk i) (unfold issued in omega arith) (unfold issued in refl) more)
+
+-- every event
+pub moves : (s : Scenario) (n : ℕ) (desk : Desk) (line : ℕ) (what : EventKind) → IsEvent what → admits s.config s.nodes what ≡ true → IsKept s.config n desk → Moves s n desk (stepped s desk line what)
+unfolding admits
+moves s n desk line (Clock ms) is e kept = moves_quiet s n desk (record desk { clock = desk.clock + ms }) (omega arith) refl (kept_clock s.config n ms desk is.1 kept)
+moves s n desk line (Store e) is admitted kept =
+    let parts = and_parts (are_declared s.nodes e.client e.peer) (list_all (admits_group s.config) e.groups) admitted in
+    moves_asked_by s n desk (node_of s e.client) e.client e.peer e.resource (λ client. store_of s.config client e) refl (λ client. sound_store s.config client e is.groups.1 parts.1) kept
+moves s n desk line (Fetch e) is admitted kept = moves_asked_by s n desk (node_of s e.client) e.client e.peer e.resource (λ client. fetch_of s.config e) refl (λ client. sound_fetch s.config e) kept
+moves s n desk line (Deliver k) is admitted kept = moves_hearing s n 1 desk (delivered s desk line k) (omega arith) kept (hears_delivered s desk line k kept.steady)
+moves s n desk line (Drain m) is admitted kept = moves_hearing s n m desk (drained s m desk) is.1 kept (hears_drained s m desk kept.steady)
+
+-- ---- whole runs
+
+abbrev pub AreFrom : ℕ → List Decision → Type 0
+AreFrom clock ds = AllByRecursion (λ d. clock ≤ d.time) ds
+
+from_less : (n m : ℕ) (ds : List Decision) → n ≤ m → AreFrom m ds → AreFrom n ds
+from_less n m [] le all = tt
+from_less n m (d ∷ ds) le all = (omega (arith, le, all.0), from_less n m ds le all.1)
+
+from-append : (n clock : ℕ) (ds es : List Decision) → n ≡ clock → AreAt clock ds → AreFrom clock es → AreFrom n (ds ++ es)
+from-append n clock [] es same first later = from_less n clock es (omega (arith, same)) later
+from-append n clock (d ∷ ds) es same first later = (omega (arith, same, first.0), from-append n clock ds es same first.1 later)
+
+in_time-append : (clock : ℕ) (ds es : List Decision) → AreAt clock ds → AreFrom clock es → InTime es → InTime (ds ++ es)
+unfolding InTime
+in_time-append clock [] es first later rest = rest
+in_time-append clock (d ∷ ds) es first later rest = (from-append d.time clock ds es first.0 first.1 later, in_time-append clock ds es first.1 later rest)
+
+-- the decisions of the events from a desk on
+record IsRunFrom (s : Scenario) (desk : Desk) (ds : List Decision) : Type 0 where
+  legal : IsLegalFrom desk.shelf ds
+  sound : AreSound (model_under s.config) ds
+  since : AreFrom desk.clock ds
+  in_time : InTime ds
+
+run_from : (s : Scenario) (n : ℕ) (desk : Desk) (es : List Event) → AllByRecursion (IsEventOf s.config s.nodes) es → IsKept s.config n desk → IsRunFrom s desk (decisions_from s desk es)
+unfolding decisions_from IsLegalFrom InTime
+run_from s n desk [] are kept = record { legal = tt; sound = tt; since = tt; in_time = tt }
+run_from s n desk (e ∷ es) are kept =
+    let done : Done = stepped s desk e.line e.what in
+    let step = moves s n desk e.line e.what are.0.0 are.0.1 kept in
+    let rest = run_from s (n + 1) done.desk es are.1 step.kept in
+    let ds : List Decision = decisions_from s done.desk es in
+    let later = from_less desk.clock done.desk.clock ds step.clock rest.since in
+    record {
+      legal = step.legal ds rest.legal;
+      sound = sound-append s done.decided ds step.sound rest.sound;
+      since = from-append desk.clock desk.clock done.decided ds refl step.times later;
+      in_time = in_time-append desk.clock done.decided ds step.times later rest.in_time;
+    }
+
+-- each of these is at most as late as the next
+at_next : (n : ℕ) (before after : List Decision) (d : Decision) → AreFrom n (before ++ d ∷ after) → n ≤ d.time
+at_next n [] after d all = all.0
+at_next n (e ∷ before) after d all = at_next n before after d all.1
+
+before_next : (before after : List Decision) (d : Decision) → InTime (before ++ d ∷ after) → AllByRecursion (λ e. e.time ≤ d.time) before
+unfolding InTime
+before_next [] after d all = tt
+before_next (e ∷ before) after d all = (at_next e.time before after d all.0, before_next before after d all.1)
+
+-- what holds of the decisions of a run
+pub record IsSoundRun (ds : List Decision) : Type 0 where
+  pub legal : IsLegal ds
+  pub once : IsOnce ds
+  pub in_time : InTime ds
+  pub gives : GivesLastPuts ds
+  pub gives_then : GivesAtDecisions ds
+  pub permitted : HoldsPermitted ds
+
+sound_run : (s : Scenario) (ds : List Decision) → IsRunFrom s empty_desk ds → IsSoundRun ds
+sound_run s ds run =
+    let models : ℕ → DataModel = model_under s.config in
+    let front : (before after : List Decision) → before ++ after ≡ ds → AreSound models before = λ before after same. (sound_front models before after (subst (λ (all : List Decision). AreSound models all) (sym same) run.sound)).0 in
+    let gives : GivesLastPuts ds = λ before after same now times resource kind key. last_given models before now resource kind key (front before after same) times in
+    record {
+      legal = run.legal;
+      once = once models ds run.sound;
+      in_time = run.in_time;
+      gives = gives;
+      gives_then = λ before after d same. gives before (d ∷ after) same d.time (before_next before after d (subst (λ (all : List Decision). InTime all) (sym same) run.in_time));
+      permitted = λ before after same resource kind key held is. permitted_all models before resource kind key held (front before after same) is;
+    }
+
+pub run_is_sound : (s : Scenario) → IsScenario s → IsSoundRun (decisions s)
+run_is_sound s is = sound_run s (decisions s) (run_from s 0 empty_desk s.events is.begun.events (IsKept-start s.config is.begun.config))

@@ -1,17 +1,17 @@
 -- What a status says of what was read and written.
-use Rattle.std.proofs.Common.{◌≡◌, ◌↔◌, ℕ, ◌<◌, ◌≤◌, List, [], ◌∷◌, length, get_or, Option, Some, None, String, Bool, IsTrue, Result, Ok, refl, ap, sym, subst, ◌∙◌, ◌⊎◌, inl, inr, take, arith}
-use Rattle.std.specs.Prelude.{map, string_bytes}
+use Rattle.std.proofs.Common.{◌≡◌, ◌↔◌, ℕ, List, [], ◌∷◌, length, get_or, Option, Some, None, String, Bool, IsTrue, Result, Ok, Err, refl, ap, sym, ◌∙◌, inl, inr, arith}
+use Rattle.std.specs.Prelude.{map, string_bytes, IfOk}
 use Rattle.std.specs.Global.{Global}
 use Rattle.std.specs.Str.{bytes_eq}
 use Rattle.std.proofs.lemmas.Slice.Eq.{bytes_eq-Decides}
-use Rattle.std.specs.Io.KnownBytes.{Appends, Consumes}
-use Rattle.text_words.specs.Lines.{ended}
+use Rattle.reload_base.specs.Outside.{SourceView, SinkView, Adds}
+use Rattle.reload_base.specs.Whole.{ReadsAll, StopsWriting, WritesAll}
+use Rattle.reload_base.specs.declared.reading.TheConstants.{MAX_INPUT}
+use Rattle.reload_base.specs.declared.writing.WriteError.{WriteError}
+use Rattle.reload_base.specs.declared.writing.WriteError.TheVariants as write_error
 use Rattle.scenario_text.specs.declared.scenario.Scenario.{Scenario}
-use Rattle.scenario_text.specs.declared.fixed.Fixed.TheVariants as fixed
-use Rattle.scenario_text.specs.Texts.{text_of}
-use Rattle.scenario_text.specs.Scenarios.{IsTextOf, IsFirstBad}
+use Rattle.scenario_text.specs.Scenarios.{IsTextOf}
 use Rattle.scenario_text.proofs.TextLaws.{reading-again}
-use Rattle.scenario_text.specs.Transcript.{bad_line}
 use Rattle.overlay_command.specs.declared.status.Status.{Status}
 use Rattle.overlay_command.specs.declared.status.Status.TheVariants.{Done, Usage, ReadFault, WriteFault, NoMemory, BadLine, TooLong, BadBytes}
 use Rattle.overlay_command.specs.declared.form.Form.{Form}
@@ -19,9 +19,10 @@ use Rattle.overlay_command.specs.declared.form.Form.TheVariants.{Run, Show}
 use Rattle.wire_core.specs.declared.bad.Bad.{Bad}
 use Rattle.frame_listing.specs.Listing.{IsWhole, IsListing}
 use Rattle.overlay_command.specs.Desks.{transcript}
-use Rattle.overlay_command.specs.Top.{most_bytes, HasForm, Ends, IsDue, IsDueAfter, IsDueFor, EndsInput, IsToldBy, listed}
-use Rattle.overlay_command.proofs.Runs.{run_is_legal, run_is_once, run_gives}
-use Rattle.overlay_command.proofs.Times.{run_in_time, run_gives_then}
+use Rattle.overlay_command.specs.Due.{IsDue}
+use Rattle.overlay_command.specs.Top.{Outside, HasForm, IsDueFor, Ends}
+use Rattle.overlay_command.specs.Answers.{AnswersInput, status_of, listed}
+use Rattle.overlay_command.proofs.Runs.{run_is_sound}
 
 -- one element is the whole list
 only_one : {X : Type 0} (xs : List X) (x : X) → length xs ≡ 1 → x ≡ get_or xs 0 x → xs ≡ x ∷ []
@@ -42,63 +43,86 @@ one_scenario text s other is also =
     cc
 
 -- the transcript of a scenario is due for its text
-pub run_due : (text : List ℕ) (s : Scenario) → length text ≤ most_bytes → IsTextOf text s → IsDue Run Done text (transcript s)
-run_due text s few is = (few, s, record { spells = is; only = λ other also. one_scenario text s other is also; written = refl; legal = run_is_legal s; once = run_is_once s; in_time = run_in_time s; gives = run_gives s; gives_then = run_gives_then s })
-
--- lines were written whole, or a part of them
-told_cases : (told : Status) (old new : Option (List ℕ)) (lines : List ℕ) (status : Status) → IsToldBy told old new lines status
-    → ((status ≡ told) × Appends old new lines) ⊎ (((status ≡ WriteFault) ⊎ (status ≡ NoMemory)) × (n : ℕ) × Appends old new (take n lines))
-told_cases told old new lines WriteFault by = inr (inl refl, by.0, by.1)
-told_cases told old new lines NoMemory by = inr (inr refl, by.0, by.1)
-told_cases told old new lines Done by = inl by
-told_cases told old new lines Usage by = inl by
-told_cases told old new lines ReadFault by = inl by
-told_cases told old new lines BadLine by = inl by
-told_cases told old new lines TooLong by = inl by
-told_cases told old new lines BadBytes by = inl by
-
--- lines that are due for what was read were told
-input_told : (form : Form) (bytes lines : List ℕ) (told : Status) (old new : Option (List ℕ)) (status : Status) → IsDue form told bytes lines
-    → (Appends old new lines → EndsInput form bytes old new told) → IsToldBy told old new lines status → EndsInput form bytes old new status
-input_told form bytes lines told old new status due whole by =
-    elim (told_cases told old new lines status by) [
-      | inl (same, all) ↦ subst (EndsInput form bytes old new) (sym same) (whole all)
-      | inr (inl same, n, part) ↦ subst (EndsInput form bytes old new) (sym same) (told, lines, n, due, part)
-      | inr (inr same, n, part) ↦ subst (EndsInput form bytes old new) (sym same) (inr (told, lines, n, due, part))
-    ]
-
--- a bad line was told
-pub bad_told : (text : List ℕ) (n : ℕ) (old new : Option (List ℕ)) (status : Status) → length text ≤ most_bytes → IsFirstBad text n → IsToldBy BadLine old new (ended (bad_line n)) status → EndsInput Run text old new status
-bad_told text n old new status few bad by =
-    let due : IsDue Run BadLine text (ended (bad_line n)) = (few, n, bad, refl) in
-    input_told Run text (ended (bad_line n)) BadLine old new status due (λ all. (ended (bad_line n), due, all)) by
+pub run_due : (text : List ℕ) (s : Scenario) → IsTextOf text s → IsDue Run text Done (transcript s)
+run_due text s is =
+    let run = run_is_sound s is.scenario in (
+      s,
+      record {
+        spells = is;
+        only = λ other also. one_scenario text s other is also;
+        written = refl;
+        legal = run.legal;
+        once = run.once;
+        in_time = run.in_time;
+        gives = run.gives;
+        gives_then = run.gives_then;
+        permitted = run.permitted;
+      },
+    )
 
 -- the listing of a stream is due
-listing_due : (bytes text : List ℕ) (fault : Option Bad) → length bytes ≤ most_bytes → IsListing bytes text fault → ((fault ≡ None) ↔ IsWhole bytes) → IsDue Show (listed fault) bytes text
-listing_due bytes text None few is whole = (few, whole.0 refl, is)
-listing_due bytes text (Some fault) few is whole = (few, λ w. absurd (let e = whole.1 w in cc), fault, is)
+pub listing_due : (bytes text : List ℕ) (fault : Option Bad) → IsListing bytes text fault → ((fault ≡ None) ↔ IsWhole bytes) → IsDue Show bytes (listed fault) text
+listing_due bytes text None is whole = (whole.0 refl, is)
+listing_due bytes text (Some fault) is whole = (λ w. absurd (let e = whole.1 w in cc), fault, is)
 
--- a listing was told
-pub listing_told : (bytes text : List ℕ) (fault : Option Bad) (old new : Option (List ℕ)) (status : Status) → length bytes ≤ most_bytes → IsListing bytes text fault → ((fault ≡ None) ↔ IsWhole bytes)
-    → IsToldBy (listed fault) old new text status → EndsInput Show bytes old new status
-listing_told bytes text None old new status few is whole by =
-    let due = listing_due bytes text None few is whole in input_told Show bytes text Done old new status due (λ all. (text, due, all)) by
-listing_told bytes text (Some fault) old new status few is whole by =
-    let due = listing_due bytes text (Some fault) few is whole in input_told Show bytes text BadBytes old new status due (λ all. (text, due, all)) by
+-- lines that are due for an input were told, or a front of them
+pub input_told : (form : Form) (input due : List ℕ) (status : Status) (old new : SinkView) (told : Result Status WriteError) → IsDue form input status due → WritesAll old new due told → IfOk told (λ s. s ≡ status) → AnswersInput form input old new told
+input_told form input due status old new (Ok s) is writes same = rw same (due, is, writes)
+input_told form input due status old new (Err write_error.Failed) is writes same = (status, due, is, writes)
+input_told form input due status old new (Err write_error.NoMemory) is writes same = inl (status, due, is, writes)
 
--- what is too long is due as such, whatever the form
-too_long : (form : Form) (bytes : List ℕ) → most_bytes < length bytes → IsDue form TooLong bytes (ended (text_of fixed.TooLong))
-too_long Run bytes many = (many, refl)
-too_long Show bytes many = (many, refl)
+-- a run stopped in the transcript that is due for its text
+pub run_stopped : (text : List ℕ) (s : Scenario) (old new : SinkView) (error : WriteError) → IsTextOf text s → StopsWriting old new (transcript s) error → AnswersInput Run text old new (Err error)
+run_stopped text s old new write_error.Failed is stops = (Done, transcript s, run_due text s is, stops)
+run_stopped text s old new write_error.NoMemory is stops = inl (Done, transcript s, run_due text s is, stops)
 
--- too many bytes were told
-pub long_told : (form : Form) (words : List (String Global)) (bytes : List ℕ) (left left' old new : Option (List ℕ)) (status : Status) → HasForm form words → Consumes left left' bytes → most_bytes < length bytes → IsToldBy TooLong old new (ended (text_of fixed.TooLong)) status → Ends words left left' old new status
-long_told form words bytes left left' old new status is read many by =
-    let line = ended (text_of fixed.TooLong) in
-    let due : IsDueAfter form left left' TooLong line = (bytes, read, too_long form bytes many) in
-    let whole : IsDueFor words left left' line = inr (form, is, TooLong, due) in
-    elim (told_cases TooLong old new line status by) [
-      | inl (same, all) ↦ subst (Ends words left left' old new) (sym same) (form, is, line, due, all)
-      | inr (inl same, n, part) ↦ subst (Ends words left left' old new) (sym same) (line, n, whole, part)
-      | inr (inr same, n, part) ↦ subst (Ends words left left' old new) (sym same) (inr (line, n, whole, part))
+-- no text is due for an input under the statuses of other causes
+record IsNoCause (form : Form) (input due : List ℕ) : Type 0 where
+  usage : IsDue form input Usage due → ⊥
+  read : IsDue form input ReadFault due → ⊥
+  write : IsDue form input WriteFault due → ⊥
+  memory : IsDue form input NoMemory due → ⊥
+  long : IsDue form input TooLong due → ⊥
+
+no_cause : (form : Form) (input due : List ℕ) → IsNoCause form input due
+no_cause Run input due = record { usage = λ is. is; read = λ is. is; write = λ is. is; memory = λ is. is; long = λ is. is }
+no_cause Show input due = record { usage = λ is. is; read = λ is. is; write = λ is. is; memory = λ is. is; long = λ is. is }
+
+-- what is due was written whole
+ends_whole : (words : List (String Global)) (before after : Outside) (status : Status) (due : List ℕ) → IsDueFor words before.source after.source status due → Adds before.sink after.sink due → Ends words before after status
+ends_whole words before after Done due is adds = (due, is, adds)
+ends_whole words before after Usage due is adds = (due, is, adds)
+ends_whole words before after BadLine due is adds = (due, is, adds)
+ends_whole words before after TooLong due is adds = (due, is, adds)
+ends_whole words before after BadBytes due is adds = (due, is, adds)
+ends_whole words before after ReadFault due is adds = absurd ((no_cause is.0 is.2 due).read is.4)
+ends_whole words before after WriteFault due is adds = absurd ((no_cause is.0 is.2 due).write is.4)
+ends_whole words before after NoMemory due is adds = absurd ((no_cause is.0 is.2 due).memory is.4)
+
+-- the lines that are due were told, or a front of them
+pub ends_told : (words : List (String Global)) (before after : Outside) (status : Status) (due : List ℕ) (told : Result Status WriteError) → IsDueFor words before.source after.source status due → WritesAll before.sink after.sink due told → IfOk told (λ s. s ≡ status) → Ends words before after (status_of told)
+ends_told words before after status due (Ok s) is writes same = rw same (ends_whole words before after status due is writes)
+ends_told words before after status due (Err write_error.Failed) is writes same = (status, due, is, writes)
+ends_told words before after status due (Err write_error.NoMemory) is writes same = inl (status, due, is, writes)
+
+-- what is due for an input is due for the words of its form
+input_due : (words : List (String Global)) (old new : SourceView) (form : Form) (input : List ℕ) (status : Status) (due : List ℕ) → HasForm form words → ReadsAll MAX_INPUT old new (Ok input) → IsDue form input status due → IsDueFor words old new status due
+input_due words old new form input Usage due has reads is = absurd ((no_cause form input due).usage is)
+input_due words old new form input TooLong due has reads is = absurd ((no_cause form input due).long is)
+input_due words old new form input Done due has reads is = (form, has, input, reads, is)
+input_due words old new form input ReadFault due has reads is = (form, has, input, reads, is)
+input_due words old new form input WriteFault due has reads is = (form, has, input, reads, is)
+input_due words old new form input NoMemory due has reads is = (form, has, input, reads, is)
+input_due words old new form input BadLine due has reads is = (form, has, input, reads, is)
+input_due words old new form input BadBytes due has reads is = (form, has, input, reads, is)
+
+-- an input was answered, or memory was missing before anything was due
+pub ends_input : (words : List (String Global)) (before after : Outside) (form : Form) (input : List ℕ) (told : Result Status WriteError) → HasForm form words → ReadsAll MAX_INPUT before.source after.source (Ok input) → AnswersInput form input before.sink after.sink told → Ends words before after (status_of told)
+ends_input words before after form input (Ok status) has reads told = ends_whole words before after status told.0 (input_due words before.source after.source form input status told.0 has reads told.1) told.2
+ends_input words before after form input (Err write_error.Failed) has reads told =
+    (told.0, told.1, input_due words before.source after.source form input told.0 told.1 has reads told.2, told.3)
+ends_input words before after form input (Err write_error.NoMemory) has reads told =
+    elim told [
+      | inl front ↦ inl (front.0, front.1, input_due words before.source after.source form input front.0 front.1 has reads front.2, front.3)
+      | inr same ↦ inr ((form, has), (input, reads.0, reads.1), same)
     ]

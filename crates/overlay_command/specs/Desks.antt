@@ -1,24 +1,36 @@
 -- A run of a scenario: what each event makes of the desk, writes and decides.
-use Rattle.std.specs.Prelude.{ℕ, zero, suc, ◌+◌, ◌-◌, ◌*◌, ◌^◌, ◌==◌, ◌||◌, nat_lt, Bool, true, false, not, List, [], ◌∷◌, ◌++◌, length, replicate, slice_get, slice_set, position, unwrap_or, if◌then◌else◌, Some}
+use Rattle.std.specs.Prelude.{ℕ, zero, suc, ◌+◌, ◌-◌, ◌*◌, ◌^◌, ◌==◌, ◌||◌, nat_lt, Bool, true, false, not, List, [], ◌∷◌, ◌++◌, length, map, replicate, codes, find, slice_get, slice_set, position, Option, Some, unwrap_or, if◌then◌else◌}
 use Rattle.std.specs.Option.{option_map_or}
 use Rattle.std.specs.FinMap.{empty}
 use Rattle.reload_ids.specs.Ids.{resource_id}
+use Rattle.wire_core.specs.declared.signature.Signature.{Signature}
+use Rattle.wire_core.specs.declared.signature.SignerIdentity.TheVariants as signers
+use Rattle.security_block.specs.declared.about.About.{About}
 use Rattle.text_words.specs.Lines.{ended}
+use Rattle.text_words.specs.Separator.{byte_of}
+use Rattle.data_models.specs.declared.config.Config.{Config}
 use Rattle.data_models.specs.declared.stored_data.StoredData.{StoredData}
-use Rattle.data_models.specs.declared.stored_data.SlotKey.TheVariants as key
-use Rattle.data_models.specs.declared.fetched.Selector.TheVariants as selector
+use Rattle.data_models.specs.declared.fetched.Specifier.{Specifier}
 use Rattle.data_models.specs.Stored.{stored_size}
 use Rattle.storage_model.specs.declared.request.Value.{Value}
+use Rattle.storage_model.specs.declared.request.AskedKind.{AskedKind}
+use Rattle.storage_model.specs.declared.request.StoreAsked.{StoreAsked}
+use Rattle.storage_model.specs.declared.request.FetchAsked.{FetchAsked}
+use Rattle.storage_model.specs.declared.request.Asked.{Asked}
 use Rattle.storage_model.specs.declared.request.Asked.TheVariants as asked
-use Rattle.storage_model.specs.Records.{record_in}
-use Rattle.storage_model.specs.Verdict.{changed}
-use Rattle.storage_model.specs.Decisions.{Decision, Effect, effect_of}
+use Rattle.storage_model.specs.Records.{Map, record_in}
+use Rattle.storage_model.specs.Requests.{is_sound, is_sound_fetch}
+use Rattle.storage_model.specs.Decisions.{Decision, Effect, effect_of, changed}
 use Rattle.scenario_text.specs.declared.scenario.Scenario.{Scenario}
+use Rattle.scenario_text.specs.declared.scenario.DeclaredNode.{DeclaredNode}
 use Rattle.scenario_text.specs.declared.scenario.Event.{Event}
 use Rattle.scenario_text.specs.declared.scenario.EventKind.{EventKind}
 use Rattle.scenario_text.specs.declared.scenario.EventKind.TheVariants.{Clock, Store, Fetch, Deliver, Drain}
 use Rattle.scenario_text.specs.declared.scenario.StoreEvent.{StoreEvent}
+use Rattle.scenario_text.specs.declared.scenario.GroupWords.{GroupWords}
+use Rattle.scenario_text.specs.declared.scenario.ValueWord.{ValueWord}
 use Rattle.scenario_text.specs.declared.scenario.FetchEvent.{FetchEvent}
+use Rattle.scenario_text.specs.declared.scenario.SpecifierWord.{SpecifierWord}
 use Rattle.scenario_text.specs.declared.scenario.ResourceName.{ResourceName}
 use Rattle.scenario_text.specs.declared.scenario.ResourceName.TheVariants.{Name, Id}
 use Rattle.scenario_text.specs.declared.scenario.Data.{Data}
@@ -30,6 +42,16 @@ use Rattle.overlay_command.specs.declared.desk.Desk.{Desk}
 -- before the first event
 abbrev pub empty_desk : Desk
 empty_desk = record { clock = 0; requests = []; heard = []; shelf = empty; decisions = 0 }
+
+-- ---- requests
+
+-- the declared node of a number
+unfoldable pub node_of : Scenario → ℕ → Option DeclaredNode
+node_of s number = find (λ node. node.number == number) s.nodes
+
+-- whom a client's values name as their signer
+abbrev pub about_client : DeclaredNode → About
+about_client client = record { peer = false; node = client.node; user = client.user }
 
 -- the Resource-ID that a scenario names
 abbrev pub id_of_resource : ResourceName → ℕ
@@ -45,32 +67,85 @@ is_present (Fill n) = true
 abbrev pub bytes_of : Data → List ℕ
 bytes_of Nonexistent = []
 bytes_of (Bytes bytes) = bytes
-bytes_of (Fill n) = replicate n 97
+bytes_of (Fill n) = replicate n (byte_of (codes "a"))
 
--- the value of a Store, signed by its user
-unfoldable pub value_of : List ℕ → StoreEvent → Value
-value_of user e =
-    let stored : StoredData = record { key = key.Whole; storage_time = e.time; lifetime = e.lifetime; present = is_present e.value; value = bytes_of e.value } in
-    record { stored = stored; user = user; size = stored_size stored }
-
--- the transaction id of request K of the client C: C * 2^32 + K (this profile)
-abbrev pub id_of_request : Scenario → ℕ → ℕ
-id_of_request s k = s.client.number * 2 ^ 32 + k
-
--- the requests of a Store and of a Fetch of one kind
-unfoldable pub store_of : Scenario → ℕ → StoreEvent → Issued
-store_of s k e = record {
-  resource = record { 0 = id_of_resource e.resource };
-  id = id_of_request s k;
-  asked = asked.Store (record { origin = s.client.node; id = id_of_request s k; kinds = record { kind = e.kind; generation = e.generation; values = Some (value_of s.client.user e ∷ []) } ∷ [] });
+-- a signature as long as those of the stand-in signer; nobody looks at it
+unfoldable pub blank_signature : Signature
+blank_signature = record {
+  hash = 4;
+  algorithm = 224;
+  identity = signers.CertHash 4 (replicate 32 0);
+  value = replicate 32 0;
 }
 
-unfoldable pub fetch_of : Scenario → ℕ → FetchEvent → Issued
-fetch_of s k e = record {
-  resource = record { 0 = id_of_resource e.resource };
-  id = id_of_request s k;
-  asked = asked.Fetch (record { max = 0; specifiers = record { kind = e.kind; generation = unwrap_or e.generation 0; selector = selector.Whole } ∷ [] });
+-- the StoredData of a value
+unfoldable pub stored_of : ValueWord → StoredData
+stored_of w = record {
+  key = w.key;
+  storage_time = w.storage_time;
+  lifetime = w.lifetime;
+  present = is_present w.value;
+  value = bytes_of w.value;
+  signature = blank_signature;
 }
+
+-- a value of a Store, whose client signs it
+unfoldable pub value_of : DeclaredNode → ValueWord → Value
+value_of client w = record {
+  stored = stored_of w;
+  signer = Some (about_client client);
+  size = stored_size (stored_of w);
+}
+
+-- a kind of a Store
+unfoldable pub kind_of_group : DeclaredNode → GroupWords → AskedKind
+kind_of_group client g = record {
+  kind = g.kind;
+  generation = g.generation;
+  values = Some (map (value_of client) g.values);
+}
+
+-- a client's Store under the scenario's configuration; it is bad where it makes no sense
+unfoldable pub store_of : Config → DeclaredNode → StoreEvent → Asked
+store_of config client e =
+    let request : StoreAsked = record {
+      strange = false;
+      sequence = unwrap_or e.seq config.sequence;
+      kinds = map (kind_of_group client) e.groups;
+    } in
+    if is_sound config request then asked.Store request else asked.Bad
+
+-- a kind of a Fetch
+unfoldable pub specifier_of : SpecifierWord → Specifier
+specifier_of w = record {
+  kind = w.kind;
+  generation = unwrap_or w.generation 0;
+  selector = w.selector;
+}
+
+-- a Fetch; it is bad where it makes no sense
+unfoldable pub fetch_of : Config → FetchEvent → Asked
+fetch_of config e =
+    let request : FetchAsked = record {
+      strange = false;
+      sequence = unwrap_or e.seq config.sequence;
+      max = unwrap_or e.max 0;
+      specifiers = map specifier_of e.specifiers;
+    } in
+    if is_sound_fetch request then asked.Fetch request else asked.Bad
+
+-- a client's request to a peer as the one of number K: its transaction id is C * 2^32 + K, where C
+-- is the client's number (this profile)
+unfoldable pub issued_as : ℕ → DeclaredNode → ℕ → ResourceName → Asked → Issued
+issued_as k client peer resource request = record {
+  peer = peer;
+  resource = record { 0 = id_of_resource resource };
+  origin = client.node;
+  id = client.number * 2 ^ 32 + k;
+  asked = request;
+}
+
+-- ---- events
 
 -- what an event leaves, writes and decides
 pub record Done : Type 0 where
@@ -83,18 +158,49 @@ quiet desk = record { desk = desk; text = []; decided = [] }
 
 -- one after the other
 abbrev pub then_on : Done → (Desk → Done) → Done
-then_on first later = record { desk = (later first.desk).desk; text = first.text ++ (later first.desk).text; decided = first.decided ++ (later first.desk).decided }
+then_on first later =
+    let last = later first.desk in
+    record {
+      desk = last.desk;
+      text = first.text ++ last.text;
+      decided = first.decided ++ last.decided;
+    }
 
--- what the peer makes of a request, with its record of the resource
+-- a request is issued as the next one
+unfoldable pub issued : Desk → Issued → Desk
+issued desk i = record desk { requests = desk.requests ++ i ∷ []; heard = desk.heard ++ false ∷ [] }
+
+-- a declared client issues the next request; nobody else issues one
+unfoldable pub asked_by : Scenario → Desk → ℕ → ℕ → ResourceName → (DeclaredNode → Asked) → Desk
+asked_by s desk number peer resource request =
+    let next = length desk.requests + 1 in
+    option_map_or (λ client. issued desk (issued_as next client peer resource (request client)))
+    (node_of s number) desk
+
+-- what the peer makes of a request at a clock, with its record of the resource
+abbrev pub effect_by : Config → ℕ → Map → Issued → Effect
+effect_by config now shelf i =
+    effect_of config now i.resource.0 (record_in shelf i.resource.0) i.origin i.id i.asked
+
 abbrev pub effect_at : Scenario → Desk → Issued → Effect
-effect_at s desk i = effect_of s.config desk.clock i.resource.0 (record_in desk.shelf i.resource.0) i.asked
+effect_at s desk i = effect_by s.config desk.clock desk.shelf i
 
 unfoldable pub decision_on : Scenario → Desk → Issued → Decision
-decision_on s desk i = record { peer = s.peer.number; time = desk.clock; resource = i.resource.0; id = i.id; asked = i.asked; answer = (effect_at s desk i).answer }
+decision_on s desk i = record {
+  peer = i.peer;
+  time = desk.clock;
+  config = s.config;
+  resource = i.resource.0;
+  origin = i.origin;
+  id = i.id;
+  asked = i.asked;
+  answer = (effect_at s desk i).answer;
+}
 
 -- the lines of a decision: its own, and the answer where the client hasn't got one yet
 unfoldable pub decision_text : Scenario → Bool → Decision → List ℕ
-decision_text s heard d = ended (decide_line s.client.number d) ++ (if heard then [] else ended (answer_line d.id d.answer))
+decision_text s heard d =
+    ended (decide_line s.nodes d) ++ (if heard then [] else ended (answer_line d.id d.answer))
 
 -- the desk after the decision on the request at a place
 unfoldable pub after_decision : Scenario → Desk → ℕ → Issued → Desk
@@ -108,9 +214,16 @@ after_decision s desk at i = record desk {
 abbrev pub was_heard : List Bool → ℕ → Bool
 was_heard heard at = unwrap_or (slice_get heard at) false
 
--- the peer hears a request, which stands at a place: it decides, and hands the answer to the client at once
+-- the peer hears a request, which stands at a place: it decides, and hands the answer to the client
+-- at once
 unfoldable pub hearing : Scenario → Desk → ℕ → Issued → Done
-hearing s desk at i = record { desk = after_decision s desk at i; text = decision_text s (was_heard desk.heard at) (decision_on s desk i); decided = decision_on s desk i ∷ [] }
+hearing s desk at i =
+    let decision = decision_on s desk i in
+    record {
+      desk = after_decision s desk at i;
+      text = decision_text s (was_heard desk.heard at) decision;
+      decided = decision ∷ [];
+    }
 
 -- the same for the request at a place, where there is one
 unfoldable pub heard_at : Scenario → Desk → ℕ → Done
@@ -119,33 +232,40 @@ heard_at s desk at = option_map_or (hearing s desk at) (slice_get desk.requests 
 -- request K, counted from 1, is delivered; one that wasn't issued is refused
 unfoldable pub delivered : Scenario → Desk → ℕ → ℕ → Done
 delivered s desk line k =
-    if k == 0 || nat_lt (length desk.requests) k then record { desk = desk; text = ended (refused_line line); decided = [] } else heard_at s desk (k - 1)
+    if k == 0 || nat_lt (length desk.requests) k
+    then record { desk = desk; text = ended (refused_line line); decided = [] }
+    else heard_at s desk (k - 1)
 
 -- the request at the lowest place that wasn't heard is heard: so many times, or until there is none
 unfoldable pub drained : Scenario → ℕ → Desk → Done
 drained s zero desk = quiet desk
-drained s (suc n) desk = option_map_or (λ at. then_on (heard_at s desk at) (drained s n)) (position not desk.heard) (quiet desk)
-
--- a request is issued as the next one
-unfoldable pub issued : Desk → Issued → Done
-issued desk i = quiet (record desk { requests = desk.requests ++ i ∷ []; heard = desk.heard ++ false ∷ [] })
+drained s (suc n) desk =
+    option_map_or (λ at. then_on (heard_at s desk at) (drained s n))
+    (position not desk.heard) (quiet desk)
 
 -- what an event at a line does
 abbrev pub stepped : Scenario → Desk → ℕ → EventKind → Done
 stepped s desk line (Clock ms) = quiet (record desk { clock = desk.clock + ms })
-stepped s desk line (Store e) = issued desk (store_of s (length desk.requests + 1) e)
-stepped s desk line (Fetch e) = issued desk (fetch_of s (length desk.requests + 1) e)
+stepped s desk line (Store e) =
+    quiet (asked_by s desk e.client e.peer e.resource (λ client. store_of s.config client e))
+stepped s desk line (Fetch e) =
+    quiet (asked_by s desk e.client e.peer e.resource (λ client. fetch_of s.config e))
 stepped s desk line (Deliver k) = delivered s desk line k
 stepped s desk line (Drain n) = drained s n desk
+
+-- ---- the run
 
 -- the text of the events from a desk on, and the end line
 unfoldable pub text_from : Scenario → Desk → List Event → List ℕ
 text_from s desk [] = ended (end_line (length desk.requests) desk.decisions)
-text_from s desk (e ∷ es) = (stepped s desk e.line e.what).text ++ text_from s (stepped s desk e.line e.what).desk es
+text_from s desk (e ∷ es) =
+    (stepped s desk e.line e.what).text ++ text_from s (stepped s desk e.line e.what).desk es
 
 unfoldable pub decisions_from : Scenario → Desk → List Event → List Decision
 decisions_from s desk [] = []
-decisions_from s desk (e ∷ es) = (stepped s desk e.line e.what).decided ++ decisions_from s (stepped s desk e.line e.what).desk es
+decisions_from s desk (e ∷ es) =
+    (stepped s desk e.line e.what).decided
+    ++ decisions_from s (stepped s desk e.line e.what).desk es
 
 -- the transcript of a scenario's run
 abbrev pub transcript : Scenario → List ℕ

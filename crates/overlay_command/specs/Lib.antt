@@ -1,4 +1,6 @@
+pub mod Answers
 pub mod Bounds
 pub mod Desks
-pub mod Top
+pub mod Due
 pub mod Firsts
+pub mod Top

@@ -1,88 +1,69 @@
 //! The top call.
 
-ghost use Rattle.std.specs.Prelude.{◌≡◌, ℕ, ◌<◌, ◌≤◌, ◌^◌, ◌↔◌, List, length, ◌++◌, IsTrue, IfOk};
-ghost use Rattle.reload_base.specs.Outside.{Rose};
+ghost use Rattle.std.specs.Prelude.{◌≡◌, ◌≤◌, length, IfOk};
+ghost use Rattle.reload_base.specs.Whole.{WritesAll};
 ghost use Rattle.text_words.specs.Lines.{ended};
-ghost use Rattle.scenario_text.specs.Texts.{text_of};
 ghost use Rattle.scenario_text.specs.Transcript.{bad_line};
-ghost use Rattle.overlay_command.specs.Top.{Ends, EndsInput, listed, IsTold, IsToldBy, Completes};
+ghost use Rattle.overlay_command.specs.Top.{Ends, Completes, usage_line, too_long_line};
+ghost use Rattle.overlay_command.specs.Answers.{AnswersInput, listed};
 
 use crate::form::{Form, form_of};
 use crate::run::run;
 use crate::status::Status;
 use frame_listing::{Listing, list_stream};
-use reload_base::{Bytes, NoMemory, ReadError, Sink, Source, WriteError, read_all, write_all};
-use scenario_text::{Fixed, TextFault, put_bad_line, read_scenario};
+use reload_base::{
+    Bytes, MAX_INPUT, NoMemory, ReadError, Sink, Source, WriteError, read_all, write_all,
+};
+use scenario_text::{TextFault, put_bad_line, read_scenario};
 use std::alloc::Global;
 
-// The most bytes of a scenario, and of a stream.
-const MOST_BYTES: usize = 16_777_216;
-
-// Writes lines, and answers the status that they tell unless the sink fails.
-fn told<K: Sink>(lines: &[u8], status: Status, sink: &mut K) -> Status
-    requires { IsTold status }
-    ensures ends { IsToldBy status (K.written sink.old) (K.written sink.new) lines.now result }
-    ensures later { K.faults sink.old ≤ K.faults sink.new }
-    ensures failed { result ≡ Status.WriteFault → Rose (K.faults sink.old) (K.faults sink.new) }
+// Writes lines, and answers the status that they tell.
+fn tell<K: Sink>(lines: &[u8], status: Status, sink: &mut K) -> Result<Status, WriteError>
+    ensures lines { WritesAll (K.view sink.old) (K.view sink.new) lines.now result }
+    ensures status { IfOk result (λ told. told ≡ status) }
 {
-    match write_all(sink, lines) {
-        Ok(()) => status,
-        Err(WriteError::Failed) => Status::WriteFault,
-        Err(WriteError::NoMemory) => Status::NoMemory,
-    }
+    write_all(sink, lines)?;
+    Ok(status)
 }
 
-// A fixed text as a line.
-fn line_of(alloc: Global, text: Fixed) -> Result<Bytes, NoMemory>
-    ensures { IfOk result (λ line. line ≡ ended (text_of text)) }
+// The line that says which words a call has.
+#[tactic(auto, unfolding(crate::specs::Top::usage_line))]
+fn usage_line() -> &'static [u8]
+    ensures { result.now ≡ ended usage_line }
 {
-    let mut line = Bytes::from_slice(alloc, text.text())?;
-    line.extend(b"\n")?;
-    Ok(line)
+    b"usage: overlay run|show\n"
 }
 
-// Writes a fixed text as a line, and answers the status that it tells unless that fails.
-fn refuse<K: Sink>(alloc: Global, text: Fixed, status: Status, sink: &mut K) -> Status
-    requires { IsTold status }
-    ensures ends { IsToldBy status (K.written sink.old) (K.written sink.new) (ended (text_of text)) result }
-    ensures later { K.faults sink.old ≤ K.faults sink.new }
-    ensures failed { result ≡ Status.WriteFault → Rose (K.faults sink.old) (K.faults sink.new) }
+// The line for an input that is too long.
+#[tactic(auto, unfolding(crate::specs::Top::too_long_line))]
+fn too_long_line() -> &'static [u8]
+    ensures { result.now ≡ ended too_long_line }
 {
-    match line_of(alloc, text) {
-        Ok(line) => told(line.as_slice(), status, sink),
-        Err(NoMemory) => Status::NoMemory,
-    }
+    b"too long\n"
 }
 
 // Tells the first bad line.
-fn refuse_line<K: Sink>(alloc: Global, n: u64, sink: &mut K) -> Status
-    ensures ends { IsToldBy Status.BadLine (K.written sink.old) (K.written sink.new) (ended (bad_line n)) result }
-    ensures later { K.faults sink.old ≤ K.faults sink.new }
-    ensures failed { result ≡ Status.WriteFault → Rose (K.faults sink.old) (K.faults sink.new) }
+fn refuse_line<K: Sink>(alloc: Global, n: u64, sink: &mut K) -> Result<Status, WriteError>
+    ensures lines { WritesAll (K.view sink.old) (K.view sink.new) (ended (bad_line n)) result }
+    ensures status { IfOk result (λ told. told ≡ Status.BadLine) }
 {
     let mut line = Bytes::new(alloc);
-    match put_bad_line(&mut line, n) {
-        Ok(()) => told(line.as_slice(), Status::BadLine, sink),
-        Err(NoMemory) => Status::NoMemory,
-    }
+    put_bad_line(&mut line, n)?;
+    tell(line.as_slice(), Status::BadLine, sink)
 }
 
 // Runs the scenario of a text, or tells its first bad line.
-fn run_text<K: Sink>(alloc: Global, text: &[u8], sink: &mut K) -> Status
-    requires { length text.now ≤ 16777216 }
-    ensures ends { EndsInput Form.Run text.now (K.written sink.old) (K.written sink.new) result }
-    ensures later { K.faults sink.old ≤ K.faults sink.new }
-    ensures failed { result ≡ Status.WriteFault → Rose (K.faults sink.old) (K.faults sink.new) }
+fn run_text<K: Sink>(alloc: Global, text: &[u8], sink: &mut K) -> Result<Status, WriteError>
+    requires { length text.now ≤ MAX_INPUT }
+    ensures { AnswersInput Form.Run text.now (K.view sink.old) (K.view sink.new) result }
 {
-    let s = match read_scenario(alloc, text) {
-        Ok(s) => s,
-        Err(TextFault::BadLine(n)) => return refuse_line(alloc, n, sink),
-        Err(TextFault::NoMemory) => return Status::NoMemory,
-    };
-    match run(alloc, &s, sink) {
-        Ok(()) => Status::Done,
-        Err(WriteError::Failed) => Status::WriteFault,
-        Err(WriteError::NoMemory) => Status::NoMemory,
+    match read_scenario(alloc, text) {
+        Ok(scenario) => {
+            run(alloc, &scenario, sink)?;
+            Ok(Status::Done)
+        }
+        Err(TextFault::BadLine(n)) => refuse_line(alloc, n, sink),
+        Err(TextFault::NoMemory) => Err(WriteError::NoMemory),
     }
 }
 
@@ -97,24 +78,23 @@ fn told_by(listing: &Listing) -> Status
 }
 
 // Lists a stream up to its first fault.
-fn show<K: Sink>(alloc: Global, stream: &[u8], sink: &mut K) -> Status
-    requires { length stream.now ≤ 16777216 }
-    ensures ends { EndsInput Form.Show stream.now (K.written sink.old) (K.written sink.new) result }
-    ensures later { K.faults sink.old ≤ K.faults sink.new }
-    ensures failed { result ≡ Status.WriteFault → Rose (K.faults sink.old) (K.faults sink.new) }
+fn show<K: Sink>(alloc: Global, stream: &[u8], sink: &mut K) -> Result<Status, WriteError>
+    requires { length stream.now ≤ MAX_INPUT }
+    ensures { AnswersInput Form.Show stream.now (K.view sink.old) (K.view sink.new) result }
 {
-    match list_stream(alloc, stream) {
-        Ok(listing) => told(listing.text.as_slice(), told_by(&listing), sink),
-        Err(NoMemory) => Status::NoMemory,
-    }
+    let listing = list_stream(alloc, stream)?;
+    tell(listing.text.as_slice(), told_by(&listing), sink)
 }
 
-// Does with what was read what the form of the words says.
-fn answer<K: Sink>(alloc: Global, form: Form, input: &[u8], sink: &mut K) -> Status
-    requires { length input.now ≤ 16777216 }
-    ensures ends { EndsInput form input.now (K.written sink.old) (K.written sink.new) result }
-    ensures later { K.faults sink.old ≤ K.faults sink.new }
-    ensures failed { result ≡ Status.WriteFault → Rose (K.faults sink.old) (K.faults sink.new) }
+// Does with an input what its form says.
+fn answer<K: Sink>(
+    alloc: Global,
+    form: Form,
+    input: &[u8],
+    sink: &mut K,
+) -> Result<Status, WriteError>
+    requires { length input.now ≤ MAX_INPUT }
+    ensures { AnswersInput form input.now (K.view sink.old) (K.view sink.new) result }
 {
     match form {
         Form::Run => run_text(alloc, input, sink),
@@ -122,37 +102,36 @@ fn answer<K: Sink>(alloc: Global, form: Form, input: &[u8], sink: &mut K) -> Sta
     }
 }
 
-/// Runs a command over a source and a sink, which reads the source to its end: `run` runs a scenario and writes its
-/// transcript, `show` lists a stream of frames.
+/// Runs a command over a source and a sink, which reads the source to its end: `run` runs a
+/// scenario and writes its transcript, `show` lists a stream of frames.
 ///
-/// The words are those after the program's name. Every line that is written ends with a line feed. A status other
-/// than `Done` has its cause and its last line: `Usage` where the words are no command, `TooLong` where more than
-/// 16,777,216 bytes were read, `BadLine` where a line is outside the grammar, `BadBytes` where a stream isn't whole
-/// frames of whole messages.
+/// The words are those after the program's name. Every line that is written ends with a line feed.
+/// A status other than `Done` has its cause and its last line: `Usage` where the words are no
+/// command, `TooLong` where more than `MAX_INPUT` bytes were read, `BadLine` where a line is
+/// outside the grammar, `BadBytes` where a stream isn't whole frames of whole messages.
 pub fn overlay<S: Source, K: Sink>(
     alloc: Global,
     words: &Vec<String>,
     source: &mut S,
     sink: &mut K,
 ) -> Status
-    // What was read and written, and that the decisions are those of one map that each Store changes at most once.
-    ensures ends { Ends words.now.items (S.left source.old) (S.left source.new) (K.written sink.old) (K.written sink.new) result }
+    // What was read and written; that a fault of the source or the sink is counted exactly where it
+    // is answered; that the decisions are those of one map that each Store changes at most once.
+    ensures ends { Ends words.now.items
+        (record { source = S.view source.old; sink = K.view sink.old })
+        (record { source = S.view source.new; sink = K.view sink.new }) result }
 
-    // A fault of the source or the sink is answered only where its count rose.
-    ensures read_fault { result ≡ Status.ReadFault → Rose (S.faults source.old) (S.faults source.new) }
-    ensures write_fault { result ≡ Status.WriteFault → Rose (K.faults sink.old) (K.faults sink.new) }
-    ensures later { (S.faults source.old ≤ S.faults source.new) × (K.faults sink.old ≤ K.faults sink.new) }
-
-    // The text of a scenario is run whole, and a whole stream listed whole, unless the source, the sink or the memory fails.
-    ensures complete { Completes words.now.items (S.left source.old) result }
+    // The text of a scenario is run whole, and a whole stream listed whole, unless the source, the
+    // sink or the memory fails.
+    ensures complete { Completes words.now.items (S.view source.old).left result }
 {
     let Some(form) = form_of(words.as_slice()) else {
-        return refuse(alloc, Fixed::Usage, Status::Usage, sink);
+        return Status::of(tell(usage_line(), Status::Usage, sink));
     };
-    match read_all(alloc, source, MOST_BYTES) {
-        Ok(input) => answer(alloc, form, input.as_slice(), sink),
+    match read_all(alloc, source, MAX_INPUT) {
+        Ok(input) => Status::of(answer(alloc, form, input.as_slice(), sink)),
         Err(ReadError::Failed) => Status::ReadFault,
-        Err(ReadError::TooLong) => refuse(alloc, Fixed::TooLong, Status::TooLong, sink),
+        Err(ReadError::TooLong) => Status::of(tell(too_long_line(), Status::TooLong, sink)),
         Err(ReadError::NoMemory) => Status::NoMemory,
     }
 }

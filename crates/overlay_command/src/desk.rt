@@ -1,31 +1,37 @@
 //! The desk: the clock, the requests that were issued, and the one peer's records.
 
-ghost use Rattle.std.specs.Prelude.{◌≡◌, ℕ, ◌+◌, ◌<◌, ◌≤◌, ◌^◌, ◌++◌, OnOk, IfOk};
+ghost use Rattle.std.specs.Prelude.{◌≡◌, ◌+◌, ◌<◌, ◌≤◌, ◌^◌, ◌++◌, length, OnOk, IfOk};
+ghost use Rattle.std.specs.Option.{option_copied};
 ghost use Rattle.storage_model.specs.Records.{record_in};
-ghost use Rattle.storage_model.specs.Verdict.{changed};
-ghost use Rattle.storage_model.specs.Decisions.{effect_of};
-ghost use Rattle.kind_store.specs.Counted.{IsCounted};
+ghost use Rattle.storage_model.specs.Decisions.{changed};
+ghost use Rattle.scenario_text.specs.declared.scenario.TheConstants.{MAX_NUMBER};
+ghost use Rattle.scenario_text.specs.Lines.Store.{IsStore};
+ghost use Rattle.scenario_text.specs.Scenarios.{IsEventOf, IsScenario};
 ghost use Rattle.scenario_text.specs.Answers.{answer_of};
-ghost use Rattle.overlay_command.specs.Desks.{empty_desk, heard_at, delivered, drained, issued, stepped};
-ghost use Rattle.overlay_command.specs.Bounds.{IsSteady, IsKept, IsSmall};
+ghost use Rattle.overlay_command.specs.Desks.{empty_desk, node_of, issued_as, issued, asked_by, store_of, fetch_of, effect_by, heard_at, delivered, drained, stepped};
+ghost use Rattle.overlay_command.specs.Bounds.{IsDecidable, IsSteady, IsKept};
 
 use crate::heard::Heard;
-use crate::requests::{fetch_of, store_of};
+use crate::requests::{fetch_of, id_of_resource, store_of};
 use data_models::Config;
 use kind_store::Shelf;
 use reload_base::{Bytes, List, NoMemory};
-use reload_ids::ResourceId;
+use reload_ids::{NodeId, ResourceId};
 use scenario_text::{
-    DecisionLine, Event, EventKind, Scenario, Told, put_answer_line, put_decide_line,
-    put_refused_line,
+    DecisionLine, DeclaredNode, Event, EventKind, FetchEvent, ResourceName, Scenario, StoreEvent,
+    Told, put_answer_line, put_decide_line, put_refused_line,
 };
 use std::alloc::Global;
-use storage_model::Asked;
+use storage_model::{Asked, Refusal};
 
 /// A request that was issued.
 #[derive(Debug, Drop)]
 pub struct Issued {
+    /// The number of the peer that is asked.
+    pub peer: u32,
     pub resource: ResourceId,
+    /// Who asks.
+    pub origin: NodeId,
     /// The transaction id.
     pub id: u64,
     pub asked: Asked,
@@ -45,6 +51,18 @@ pub struct Desk {
     pub decisions: u64,
 }
 
+// The declared node of a number.
+#[tactic(auto, unfolding(crate::specs::Desks::node_of))]
+fn node_of(scenario: &Scenario, number: u32) -> Option<&DeclaredNode>
+    ensures { option_copied result ≡ node_of scenario.now number }
+{
+    scenario
+        .nodes
+        .as_slice()
+        .iter()
+        .find(|node| node.number == number)
+}
+
 // What the peer makes of a request, with its records.
 fn decide(
     alloc: Global,
@@ -53,20 +71,23 @@ fn decide(
     now: u64,
     request: &Issued,
 ) -> Result<Told, NoMemory>
-    requires clock { now < 2 ^ 62 }
-    requires counted { IsCounted (record_in shelf.old request.now.resource.0) }
-    ensures answer { IfOk result (λ told. answer_of told ≡ (effect_of config.now now request.now.resource.0 (record_in shelf.old request.now.resource.0) request.now.asked).answer) }
-    ensures shelf { OnOk result (shelf.new ≡ changed shelf.old request.now.resource.0 (effect_of config.now now request.now.resource.0 (record_in shelf.old request.now.resource.0) request.now.asked).next) }
+    requires { IsDecidable config.now now (record_in shelf.old request.now.resource.0)
+        request.now.asked }
+    ensures answer { IfOk result (λ told. answer_of told
+        ≡ (effect_by config.now now shelf.old request.now).answer) }
+    ensures shelf { OnOk result (shelf.new ≡ changed shelf.old request.now.resource.0
+        (effect_by config.now now shelf.old request.now).next) }
 {
+    let (resource, origin, id) = (request.resource, request.origin, request.id);
     match &request.asked {
-        Asked::Store(q) => Ok(Told::Store(shelf.decide_store(config, now, request.resource, q)?)),
-        Asked::Fetch(q) => Ok(Told::Fetch(shelf.answer_fetch(
-            alloc,
-            config,
-            now,
-            request.resource,
-            q,
+        Asked::Store(store) => Ok(Told::Store(shelf.decide_store(
+            config, now, resource, origin, id, store,
         )?)),
+        Asked::Fetch(fetch) => Ok(Told::Fetch(shelf.answer_fetch(
+            alloc, config, now, resource, fetch,
+        )?)),
+        Asked::Unsigned => Ok(Told::Refused(Refusal::Forbidden)),
+        Asked::Bad | Asked::Join(_) => Ok(Told::Refused(Refusal::InvalidMessage)),
     }
 }
 
@@ -84,35 +105,118 @@ impl Desk {
         }
     }
 
+    // A client's request to a peer as the next one.
+    #[tactic(auto, unfolding(crate::specs::Desks::issued_as))]
+    fn next(
+        &self,
+        client: &DeclaredNode,
+        peer: u32,
+        resource: &ResourceName,
+        asked: Asked,
+    ) -> Issued
+        requires client { client.now.number ≤ MAX_NUMBER }
+        requires few { length self.now.requests < 2 ^ 32 }
+        ensures { result
+            ≡ issued_as (length self.now.requests + 1) client.now peer resource.now asked }
+    {
+        Issued {
+            peer,
+            resource: id_of_resource(resource),
+            origin: client.node,
+            id: u64::from(client.number) * 4_294_967_296 + self.requests.len() as u64 + 1,
+            asked,
+        }
+    }
+
+    // A request is issued as the next one.
+    #[tactic(auto, unfolding(crate::specs::Desks::issued))]
+    fn issue(&mut self, request: Issued) -> Result<(), NoMemory>
+        ensures { OnOk result (self.new ≡ issued self.old request) }
+    {
+        self.requests.push(request)?;
+        self.heard.push()
+    }
+
+    // A declared client issues a Store.
+    #[tactic(auto, using(crate::proofs::Nodes::numbered), unfolding(crate::specs::Desks::asked_by))]
+    fn store(
+        &mut self,
+        alloc: Global,
+        scenario: &Scenario,
+        event: &StoreEvent,
+    ) -> Result<(), NoMemory>
+        requires scenario { IsScenario scenario.now }
+        requires event { IsStore event.now }
+        requires few { length self.old.requests < 2 ^ 32 }
+        ensures { OnOk result (self.new
+            ≡ asked_by scenario.now self.old event.now.client event.now.peer event.now.resource
+            (λ client. store_of scenario.now.config client event.now)) }
+    {
+        let Some(client) = node_of(scenario, event.client) else {
+            return Ok(());
+        };
+        let asked = store_of(alloc, &scenario.config, client, event)?;
+        let request = self.next(client, event.peer, &event.resource, asked);
+        self.issue(request)
+    }
+
+    // A declared client issues a Fetch.
+    #[tactic(auto, using(crate::proofs::Nodes::numbered), unfolding(crate::specs::Desks::asked_by))]
+    fn fetch(
+        &mut self,
+        alloc: Global,
+        scenario: &Scenario,
+        event: &FetchEvent,
+    ) -> Result<(), NoMemory>
+        requires scenario { IsScenario scenario.now }
+        requires few { length self.old.requests < 2 ^ 32 }
+        ensures { OnOk result (self.new
+            ≡ asked_by scenario.now self.old event.now.client event.now.peer event.now.resource
+            (λ client. fetch_of scenario.now.config event.now)) }
+    {
+        let Some(client) = node_of(scenario, event.client) else {
+            return Ok(());
+        };
+        let asked = fetch_of(alloc, &scenario.config, event)?;
+        let request = self.next(client, event.peer, &event.resource, asked);
+        self.issue(request)
+    }
+
     // The peer hears the request at a place: it decides, and the client takes the first answer.
     #[tactic(auto, unfolding(crate::specs::Desks::heard_at, crate::specs::Desks::hearing, crate::specs::Desks::after_decision, crate::specs::Desks::decision_on, crate::specs::Desks::decision_text))]
     fn hear(
         &mut self,
         alloc: Global,
-        s: &Scenario,
+        scenario: &Scenario,
         at: usize,
         out: &mut Bytes,
     ) -> Result<(), NoMemory>
-        requires steady { IsSteady self.old }
+        requires steady { IsSteady scenario.now.config self.old }
         requires few { self.old.decisions < 2 ^ 62 }
         requires clock { self.old.clock < 2 ^ 62 }
-        ensures desk { OnOk result (self.new ≡ (heard_at s.now self.old at).desk) }
-        ensures text { OnOk result (out.new ≡ out.old ++ (heard_at s.now self.old at).text) }
+        ensures desk { OnOk result (self.new ≡ (heard_at scenario.now self.old at).desk) }
+        ensures text { OnOk result (out.new ≡ out.old ++ (heard_at scenario.now self.old at).text) }
     {
         let Some(request) = self.requests.get(at) else {
             return Ok(());
         };
-        let answer = decide(alloc, &mut self.shelf, &s.config, self.clock, request)?;
+        let answer = decide(
+            alloc,
+            &mut self.shelf,
+            &scenario.config,
+            self.clock,
+            request,
+        )?;
         let line = DecisionLine {
-            peer: s.peer.number,
+            peer: request.peer,
             time: self.clock,
             resource: request.resource,
-            origin: s.client.number,
+            origin: request.origin,
             id: request.id,
             asked: &request.asked,
             answer: &answer,
         };
-        put_decide_line(out, &line)?;
+        put_decide_line(out, scenario.nodes.as_slice(), &line)?;
         if !self.heard.get(at) {
             put_answer_line(out, request.id, &answer)?;
         }
@@ -126,82 +230,74 @@ impl Desk {
     fn deliver(
         &mut self,
         alloc: Global,
-        s: &Scenario,
+        scenario: &Scenario,
         line: u64,
         k: u64,
         out: &mut Bytes,
     ) -> Result<(), NoMemory>
-        requires steady { IsSteady self.old }
+        requires steady { IsSteady scenario.now.config self.old }
         requires few { self.old.decisions < 2 ^ 62 }
         requires clock { self.old.clock < 2 ^ 62 }
-        ensures desk { OnOk result (self.new ≡ (delivered s.now self.old line k).desk) }
-        ensures text { OnOk result (out.new ≡ out.old ++ (delivered s.now self.old line k).text) }
+        ensures desk { OnOk result (self.new ≡ (delivered scenario.now self.old line k).desk) }
+        ensures text { OnOk result (out.new
+            ≡ out.old ++ (delivered scenario.now self.old line k).text) }
     {
         if k == 0 || k > self.requests.len() as u64 {
             return put_refused_line(out, line);
         }
-        self.hear(alloc, s, k as usize - 1, out)
+        self.hear(alloc, scenario, k as usize - 1, out)
     }
 
     // The lowest request that wasn't heard is heard, so many times, or until there is none.
     fn drain(
         &mut self,
         alloc: Global,
-        s: &Scenario,
+        scenario: &Scenario,
         n: u64,
         out: &mut Bytes,
     ) -> Result<(), NoMemory>
-        requires steady { IsSteady self.old }
+        requires steady { IsSteady scenario.now.config self.old }
         requires few { self.old.decisions + n < 2 ^ 62 }
         requires clock { self.old.clock < 2 ^ 62 }
-        ensures desk { OnOk result (self.new ≡ (drained s.now n self.old).desk) }
-        ensures text { OnOk result (out.new ≡ out.old ++ (drained s.now n self.old).text) }
+        ensures desk { OnOk result (self.new ≡ (drained scenario.now n self.old).desk) }
+        ensures text { OnOk result (out.new ≡ out.old ++ (drained scenario.now n self.old).text) }
     {
         let mut left = n;
         'times: while left > 0 {
             let Some(at) = self.heard.first_unheard() else {
                 return Ok(());
             };
-            self.hear(alloc, s, at, out)?;
+            self.hear(alloc, scenario, at, out)?;
             left -= 1;
         }
         Ok(())
     }
 
-    // A request is issued as the next one.
-    #[tactic(auto, unfolding(crate::specs::Desks::issued))]
-    fn issue(&mut self, request: Issued) -> Result<(), NoMemory>
-        ensures { OnOk result (self.new ≡ (issued self.old request).desk) }
-    {
-        self.requests.push(request)?;
-        self.heard.push()
-    }
-
     /// One event of a scenario. Its lines are appended.
-    #[tactic(auto, unfolding(crate::specs::Desks::issued))]
     pub fn step(
         &mut self,
         alloc: Global,
-        s: &Scenario,
-        e: &Event,
+        scenario: &Scenario,
+        event: &Event,
         out: &mut Bytes,
     ) -> Result<(), NoMemory>
-        requires kept { IsKept (2 ^ 31) self.old }
-        requires small { IsSmall e.now.what }
-        requires client { s.now.client.number ≤ 9999 }
-        ensures desk { OnOk result (self.new ≡ (stepped s.now self.old e.now.line e.now.what).desk) }
-        ensures text { OnOk result (out.new ≡ out.old ++ (stepped s.now self.old e.now.line e.now.what).text) }
+        requires kept { IsKept scenario.now.config (2 ^ 31) self.old }
+        requires scenario { IsScenario scenario.now }
+        requires event { IsEventOf scenario.now.config scenario.now.nodes event.now }
+        ensures desk { OnOk result (self.new
+            ≡ (stepped scenario.now self.old event.now.line event.now.what).desk) }
+        ensures text { OnOk result (out.new
+            ≡ out.old ++ (stepped scenario.now self.old event.now.line event.now.what).text) }
     {
-        let number = self.requests.len() as u64 + 1;
-        match &e.what {
+        match &event.what {
             EventKind::Clock(ms) => {
                 self.clock += *ms;
                 Ok(())
             }
-            EventKind::Store(store) => self.issue(store_of(alloc, s, number, store)?),
-            EventKind::Fetch(fetch) => self.issue(fetch_of(alloc, s, number, fetch)?),
-            EventKind::Deliver(k) => self.deliver(alloc, s, e.line, *k, out),
-            EventKind::Drain(n) => self.drain(alloc, s, *n, out),
+            EventKind::Store(store) => self.store(alloc, scenario, store.get()),
+            EventKind::Fetch(fetch) => self.fetch(alloc, scenario, fetch.get()),
+            EventKind::Deliver(k) => self.deliver(alloc, scenario, event.line, *k, out),
+            EventKind::Drain(n) => self.drain(alloc, scenario, *n, out),
         }
     }
 }

@@ -1,7 +1,7 @@
 //! The forms that the words of a call have.
 
 ghost use Rattle.std.specs.Prelude.{◌≡◌, None, IfSome};
-ghost use Rattle.overlay_command.specs.Top.{HasForm, HasNoForm};
+ghost use Rattle.overlay_command.specs.Top.{HasForm, IsCommand};
 
 /// What a call does with its input.
 #[derive(Clone, Copy, Debug, PartialEq, Eq)]
@@ -15,7 +15,7 @@ pub enum Form {
 /// The form of the words, if they have one.
 pub(crate) fn form_of(words: &[String]) -> Option<Form>
     ensures some { IfSome result (λ form. HasForm form words.now) }
-    ensures none { result ≡ None → HasNoForm words.now }
+    ensures none { result ≡ None → ¬ IsCommand words.now }
 {
     match words {
         [word] if word.as_str() == "run" => Some(Form::Run),

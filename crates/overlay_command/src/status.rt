@@ -1,5 +1,7 @@
 //! How a call ends.
 
+use reload_base::WriteError;
+
 /// How `overlay` ends.
 #[derive(Clone, Copy, Debug, PartialEq, Eq)]
 pub enum Status {
@@ -15,7 +17,7 @@ pub enum Status {
     NoMemory,
     /// Some line is outside the grammar, and no event was run.
     BadLine,
-    /// More than 16,777,216 bytes were read.
+    /// More than `MAX_INPUT` bytes were read.
     TooLong,
     /// The stream isn't whole frames of whole messages.
     BadBytes,
@@ -23,7 +25,19 @@ pub enum Status {
 
 impl Status {
     ghost use Rattle.std.specs.Prelude.{◌≡◌};
+    ghost use Rattle.overlay_command.specs.Answers.{status_of};
     ghost use Rattle.overlay_command.specs.Top.{exit_status};
+
+    /// The status of a call: that which its last line tells, or that of the write that stopped.
+    pub(crate) fn of(told: Result<Status, WriteError>) -> Status
+        ensures { result ≡ status_of told }
+    {
+        match told {
+            Ok(status) => status,
+            Err(WriteError::Failed) => Status::WriteFault,
+            Err(WriteError::NoMemory) => Status::NoMemory,
+        }
+    }
 
     /// The exit status of a program that ends so.
     pub fn code(self) -> u8

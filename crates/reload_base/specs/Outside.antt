@@ -1,6 +1,6 @@
--- What a source, a sink and an air do to what they hold, where they tell, and to their count of faults.
-use Rattle.std.specs.Prelude.{◌≡◌, ℕ, ◌+◌, ◌-◌, ◌^◌, ◌<◌, ◌≤◌, min, List, [], ◌∷◌, ◌++◌, length, take, slice_get, sum_by, Option, Some}
-use Rattle.std.specs.Io.KnownBytes.{Keeps, Appends, Consumes, IsAtEnd}
+-- What stands outside as one value each, and what a call does to it.
+use Rattle.std.specs.Prelude.{◌≡◌, ℕ, ◌+◌, ◌-◌, ◌^◌, ◌<◌, ◌≤◌, nat_lt, if◌then◌else◌, List, [], ◌∷◌, ◌++◌, length, take, slice_get, sum_by, Option, Some}
+use Rattle.std.specs.Io.KnownBytes.{Appends, Consumes, IsAtEnd}
 use Rattle.reload_base.specs.declared.source.Took.{Took}
 use Rattle.reload_base.specs.declared.source.Took.TheVariants as took
 use Rattle.reload_base.specs.declared.sink.Wrote.{Wrote}
@@ -11,33 +11,67 @@ use Rattle.reload_base.specs.declared.air.Sent.TheVariants as sent
 use Rattle.reload_base.specs.declared.air.Got.{Got}
 use Rattle.reload_base.specs.declared.air.Got.TheVariants as got
 
--- The count of faults rose between two moments. A count ends at 2^64 - 1, and one that stands there counts as risen.
-abbrev pub Rose : ℕ → ℕ → Type 0
-Rose before now = min (before + 1) (2 ^ 64 - 1) ≤ now
+-- a source: the bytes that are left, where it tells, and the faults that it counted
+pub record SourceView : Type 0 where
+  pub left : Option (List ℕ)
+  pub faults : ℕ
 
--- A read that took n moved the first n bytes left to the buffer's front, none only at the end. A failed one took nothing.
-abbrev pub TakesFront : Option (List ℕ) → Option (List ℕ) → Took → List ℕ → Type 0
-TakesFront old new (took.Some n) buf = (n ≤ length buf) × Consumes old new (take n buf) × (n ≡ 0 → IsAtEnd new)
-TakesFront old new took.Failed buf = Keeps old new
+-- a sink: the bytes that were written, where it tells, and its faults
+pub record SinkView : Type 0 where
+  pub written : Option (List ℕ)
+  pub faults : ℕ
 
--- A write that took n appended the piece's first n bytes, at least one. Any other appended nothing.
-abbrev pub AppendsFront : Option (List ℕ) → Option (List ℕ) → Wrote → List ℕ → Type 0
-AppendsFront old new (wrote.Some n) piece = (0 < n) × (n ≤ length piece) × Appends old new (take n piece)
-AppendsFront old new wrote.Failed piece = Keeps old new
-AppendsFront old new wrote.NoMemory piece = Keeps old new
+-- an air: the frames that were sent, and its faults
+pub record AirView : Type 0 where
+  pub sent : List AirFrame
+  pub faults : ℕ
 
--- How many bytes the frames have together.
+-- a count after one more: it never falls, and one that stands at its end, 2^64 - 1, counts as risen
+abbrev pub raised : ℕ → ℕ
+raised n = if nat_lt n (2 ^ 64 - 1) then n + 1 else n
+
+-- these bytes, the first that were left, were taken without a fault
+abbrev pub Takes : SourceView → SourceView → List ℕ → Type 0
+Takes old new bytes = Consumes old.left new.left bytes × (new.faults ≡ old.faults)
+
+-- these bytes were taken, and then a read failed
+abbrev pub TakesThenFails : SourceView → SourceView → List ℕ → Type 0
+TakesThenFails old new bytes = Consumes old.left new.left bytes × (new.faults ≡ raised old.faults)
+
+-- these bytes were added behind those that stood there, without a fault
+abbrev pub Adds : SinkView → SinkView → List ℕ → Type 0
+Adds old new bytes = Appends old.written new.written bytes × (new.faults ≡ old.faults)
+
+-- these bytes were added, and then a write failed
+abbrev pub AddsThenFails : SinkView → SinkView → List ℕ → Type 0
+AddsThenFails old new bytes =
+    Appends old.written new.written bytes × (new.faults ≡ raised old.faults)
+
+-- a read that took n moved the first n bytes left to the buffer's front, none only at the end;
+-- one that failed took nothing
+abbrev pub Reads : SourceView → SourceView → Took → List ℕ → Type 0
+Reads old new (took.Some n) buf =
+    (n ≤ length buf) × Takes old new (take n buf) × (n ≡ 0 → IsAtEnd new.left)
+Reads old new took.Failed buf = TakesThenFails old new []
+
+-- a write that took n added the piece's first n bytes, at least one; any other added nothing
+abbrev pub Writes : SinkView → SinkView → Wrote → List ℕ → Type 0
+Writes old new (wrote.Some n) piece = (0 < n) × (n ≤ length piece) × Adds old new (take n piece)
+Writes old new wrote.Failed piece = AddsThenFails old new []
+Writes old new wrote.NoMemory piece = Adds old new []
+
+-- how many bytes the frames have together
 unfoldable pub size_of : List AirFrame → ℕ
 size_of frames = sum_by (λ f. length f.bytes) frames
 
--- A send that is Ok appended one frame with these bytes. Any other appended nothing.
-abbrev pub Sends : List AirFrame → List AirFrame → Sent → ℕ → ℕ → List ℕ → Type 0
-Sends old new sent.Ok from to bytes = let frame : AirFrame = record { from = from; to = to; bytes = bytes } in new ≡ old ++ frame ∷ []
-Sends old new sent.Failed from to bytes = new ≡ old
-Sends old new sent.NoMemory from to bytes = new ≡ old
+-- a send that is Ok put one frame with these bytes behind the others; any other sent nothing
+abbrev pub Sends : AirView → AirView → Sent → AirFrame → Type 0
+Sends old new sent.Ok frame = new ≡ record old { sent = old.sent ++ frame ∷ [] }
+Sends old new sent.Failed frame = new ≡ record old { faults = raised old.faults }
+Sends old new sent.NoMemory frame = new ≡ old
 
--- The frame that is given is the k-th, counted from 1. Any other answer gives none.
-abbrev pub Gets : List AirFrame → ℕ → Got → Type 0
-Gets frames k (got.Frame f) = slice_get frames (k - 1) ≡ Some f
-Gets frames k got.Failed = Unit {0}
-Gets frames k got.NoMemory = Unit {0}
+-- the frame that is given is the k-th, counted from 1; the frames stay as they are
+abbrev pub Gets : AirView → AirView → ℕ → Got → Type 0
+Gets old new k (got.Frame f) = (slice_get old.sent (k - 1) ≡ Some f) × (new ≡ old)
+Gets old new k got.Failed = new ≡ record old { faults = raised old.faults }
+Gets old new k got.NoMemory = new ≡ old

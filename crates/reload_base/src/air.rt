@@ -1,8 +1,7 @@
 //! What carries frames from node to node.
 
-ghost use Rattle.std.specs.Prelude.{◌≡◌, ℕ, ◌+◌, ◌^◌, ◌<◌, ◌≤◌, List, length};
-ghost use Rattle.reload_base.specs.Outside.{Sends, Gets, Rose, size_of};
-ghost use Rattle.reload_base.specs.declared.air.AirFrame.{AirFrame};
+ghost use Rattle.std.specs.Prelude.{◌≡◌, ℕ, ◌+◌, ◌^◌, ◌<◌, ◌≤◌, length};
+ghost use Rattle.reload_base.specs.Outside.{AirView, Sends, Gets, size_of};
 
 use crate::list::Bytes;
 use std::alloc::Global;
@@ -39,35 +38,28 @@ pub enum Got {
 
 /// Frames that go from node to node, numbered from 1 in the order in which they were sent.
 pub trait Air {
-    /// The frames that were sent.
-    ghost sent: { Self → List AirFrame };
-
-    /// How many faults there were, which never falls and ends at 2^64 - 1.
-    ghost faults: { Self → ℕ };
+    /// The frames that were sent, and how many calls failed.
+    ghost view: { Self → AirView };
 
     /// Sends bytes, which aren't empty, as one frame.
     fn send(&mut self, alloc: Global, from: u32, to: u32, bytes: &[u8]) -> Sent
         requires some { 0 < length bytes.now }
-        requires room { size_of (sent self.old) + length bytes.now < 2 ^ 63 }
-        ensures sent { Sends (sent self.old) (sent self.new) result from to bytes.now }
-        ensures later { faults self.old ≤ faults self.new }
-        ensures failed { result ≡ Sent.Failed → Rose (faults self.old) (faults self.new) };
+        requires room { size_of (view self.old).sent + length bytes.now < 2 ^ 63 }
+        ensures { Sends (view self.old) (view self.new) result
+            (record { from = from; to = to; bytes = bytes.now }) };
 
     /// The k-th frame, counted from 1. All frames stay as they are.
     fn frame(&mut self, alloc: Global, k: u64) -> Got
         requires first { 1 ≤ k }
-        requires last { k ≤ length (sent self.old) }
-        ensures kept { sent self.new ≡ sent self.old }
-        ensures got { Gets (sent self.old) k result }
-        ensures later { faults self.old ≤ faults self.new }
-        ensures failed { result ≡ Got.Failed → Rose (faults self.old) (faults self.new) };
+        requires last { k ≤ length (view self.old).sent }
+        ensures { Gets (view self.old) (view self.new) k result };
 
     /// The number of frames.
     fn frames(&self) -> u64
-        ensures value { result ≡ length (sent self.now) }
-        ensures few { result ≤ size_of (sent self.now) };
+        ensures value { result ≡ length (view self.now).sent }
+        ensures few { result ≤ size_of (view self.now).sent };
 
     /// How many bytes the frames have together.
     fn size(&self) -> u64
-        ensures { result ≡ size_of (sent self.now) };
+        ensures { result ≡ size_of (view self.now).sent };
 }

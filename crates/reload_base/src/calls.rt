@@ -1,14 +1,14 @@
 //! The calls of a fake.
 
-ghost use Rattle.std.specs.Prelude.{◌≡◌, ◌≤◌, false, IsTrue, IfOk};
-ghost use Rattle.reload_base.specs.Outside.{Rose};
+ghost use Rattle.std.specs.Prelude.{◌≡◌, false, IfOk, if◌then◌else◌};
+ghost use Rattle.reload_base.specs.Outside.{raised};
 
 use crate::list::List;
 use crate::no_memory::NoMemory;
 use std::alloc::Global;
 
-/// How many calls were made, the numbers of the calls that fail, counted from 1, and how many failed.
-/// Both counters end at 2^64 - 1, and no call fails once the counter of calls stands there.
+/// How many calls were made, the numbers of the calls that fail, counted from 1, and how many
+/// failed. Both counters end at 2^64 - 1, and no call fails once the counter of calls stands there.
 #[derive(Debug, Drop)]
 pub struct Calls {
     pub made: u64,
@@ -21,7 +21,8 @@ impl Calls {
 
     /// No call yet.
     pub fn new(alloc: Global, failing: &[u64]) -> Result<Calls, NoMemory>
-        ensures { IfOk result (λ calls. calls ≡ record { made = 0; failing = failing.now; faults = 0 }) }
+        ensures { IfOk result (λ calls.
+            calls ≡ record { made = 0; failing = failing.now; faults = 0 }) }
     {
         Ok(Calls {
             made: 0,
@@ -35,8 +36,8 @@ impl Calls {
     pub fn count(&mut self) -> bool
         ensures answer { result ≡ next_fails self.old }
         ensures after { self.new ≡ counted self.old }
-        ensures later { self.old.faults ≤ self.new.faults }
-        ensures failed { IsTrue result → Rose self.old.faults self.new.faults }
+        ensures faults { self.new.faults
+            ≡ (if result then raised self.old.faults else self.old.faults) }
         ensures faultless { IsFaultless self.old
             → (result ≡ false) × IsFaultless self.new × (self.new.faults ≡ self.old.faults) }
     {

@@ -27,7 +27,7 @@ pub use memory_air::MemoryAir;
 pub use memory_sink::MemorySink;
 pub use memory_source::MemorySource;
 pub use no_memory::NoMemory;
-pub use reading::{ReadError, read_all};
+pub use reading::{MAX_INPUT, ReadError, read_all};
 pub use room::Room;
 pub use sink::{Sink, Wrote};
 pub use source::{Source, Took};

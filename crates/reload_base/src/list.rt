@@ -90,7 +90,8 @@ impl<T> List<T> {
 
     /// Takes the last item out.
     pub fn pop(&mut self) -> Option<T>
-        ensures { MatchOption result ((self.old ≡ []) × (self.new ≡ [])) (λ last. self.old ≡ self.new ++ last ∷ []) }
+        ensures { MatchOption result ((self.old ≡ []) × (self.new ≡ []))
+            (λ last. self.old ≡ self.new ++ last ∷ []) }
     {
         self.items.pop()
     }
@@ -106,8 +107,8 @@ impl<T: Drop> List<T> {
         Ok(())
     }
 
-    /// Adds an item at the end of at most `most` items. Where there are that many, the first leaves, and no
-    /// memory is taken. After `NoMemory` the list is as before.
+    /// Adds an item at the end of at most `most` items. Where there are that many, the first
+    /// leaves, and no memory is taken. After `NoMemory` the list is as before.
     #[tactic(auto, unfolding(crate::specs::Lists::pushed_within))]
     pub fn push_within(&mut self, most: usize, item: T) -> Result<(), NoMemory>
         requires { 0 < most }
@@ -141,7 +142,7 @@ impl<T: Drop> List<T> {
         Ok(())
     }
 
-    /// Drops the items from a place on.
+    /// Drops the items from a place on, which takes no memory.
     pub fn truncate(&mut self, len: usize)
         ensures { self.new ≡ take len self.old }
     {

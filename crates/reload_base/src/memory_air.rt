@@ -1,7 +1,7 @@
 //! An air in memory.
 
 ghost use Rattle.std.specs.Prelude.{◌≡◌, ◌≢◌, ◌+◌, ◌^◌, ◌<◌, ◌≤◌, ◌↔◌, [], ◌∷◌, ◌++◌, length, IsTrue, IfOk, OnOk, OnErr};
-ghost use Rattle.reload_base.specs.Outside.{Sends, Gets, Rose, size_of};
+ghost use Rattle.reload_base.specs.Outside.{Sends, Gets, size_of};
 ghost use Rattle.reload_base.specs.Fakes.{counted, next_fails, IsFaultless};
 
 use crate::air::{Air, AirFrame, Got, Sent};
@@ -11,8 +11,8 @@ use crate::no_memory::NoMemory;
 use std::alloc::Global;
 use std::marker::Model;
 
-/// Frames in memory, a fake of the outside. Contracts see the frames that were sent, and beside them the calls of
-/// `send`, which alone are counted and can fail.
+/// Frames in memory, a fake of the outside. Contracts see the frames that were sent, and beside
+/// them the calls of `send`, which alone are counted and can fail.
 #[derive(Debug, Drop)]
 pub struct MemoryAir {
     frames: List<AirFrame>,
@@ -44,10 +44,11 @@ impl MemoryAir {
     /// An air without frames. The sends whose numbers are in `fail`, counted from 1, fail.
     #[tactic(auto, using(crate::proofs::Frames::size_of_none))]
     pub fn new(alloc: Global, fail: &[u64]) -> Result<MemoryAir, NoMemory>
-        ensures sent { IfOk result (λ a. ⟦<MemoryAir as Air>⟧.sent a ≡ []) }
-        ensures faults { IfOk result (λ a. ⟦<MemoryAir as Air>⟧.faults a ≡ 0) }
+        ensures view { IfOk result (λ a. ⟦<MemoryAir as Air>⟧.view a
+            ≡ record { sent = []; faults = 0 }) }
         ensures faultless { fail.now ≡ [] → IfOk result (λ a. IsFaultless a.1) }
-        ensures calls { IfOk result (λ a. a.1 ≡ record { made = 0; failing = fail.now; faults = 0 }) }
+        ensures calls { IfOk result (λ a.
+            a.1 ≡ record { made = 0; failing = fail.now; faults = 0 }) }
     {
         Ok(MemoryAir {
             frames: List::new(alloc),
@@ -77,17 +78,15 @@ impl MemoryAir {
 }
 
 impl Air for MemoryAir {
-    ghost sent = { λ a. a.0 };
-
-    ghost faults = { λ a. a.1.faults };
+    ghost view = { λ a. record { sent = a.0; faults = a.1.faults } };
 
     /// Sends the frame, unless the call is one that fails or memory is missing.
     fn send(&mut self, alloc: Global, from: u32, to: u32, bytes: &[u8]) -> Sent
         requires some { 0 < length bytes.now }
         requires room { size_of self.old.0 + length bytes.now < 2 ^ 63 }
-        ensures sent { Sends self.old.0 self.new.0 result from to bytes.now }
-        ensures later { self.old.1.faults ≤ self.new.1.faults }
-        ensures failed { result ≡ Sent.Failed → Rose self.old.1.faults self.new.1.faults }
+        ensures sent { Sends (⟦<MemoryAir as Air>⟧.view self.old)
+            (⟦<MemoryAir as Air>⟧.view self.new) result
+            (record { from = from; to = to; bytes = bytes.now }) }
         ensures fails { (result ≡ Sent.Failed) ↔ IsTrue (next_fails self.old.1) }
         ensures calls { self.new.1 ≡ counted self.old.1 }
         ensures faultless { IsFaultless self.old.1
@@ -107,9 +106,8 @@ impl Air for MemoryAir {
         requires first { 1 ≤ k }
         requires last { k ≤ length self.old.0 }
         ensures kept { self.new ≡ self.old }
-        ensures got { Gets self.old.0 k result }
-        ensures later { self.old.1.faults ≤ self.new.1.faults }
-        ensures failed { result ≡ Got.Failed → Rose self.old.1.faults self.new.1.faults }
+        ensures got { Gets (⟦<MemoryAir as Air>⟧.view self.old)
+            (⟦<MemoryAir as Air>⟧.view self.new) k result }
         ensures fault { result ≢ Got.Failed }
     {
         let frame = &self.frames.as_slice()[(k - 1) as usize];

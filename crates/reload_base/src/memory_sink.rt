@@ -1,7 +1,7 @@
 //! A sink into memory.
 
-ghost use Rattle.std.specs.Prelude.{◌≡◌, ℕ, ◌<◌, ◌≤◌, ◌↔◌, [], Some, length, IsTrue, IfOk};
-ghost use Rattle.reload_base.specs.Outside.{AppendsFront, Rose};
+ghost use Rattle.std.specs.Prelude.{◌≡◌, ℕ, ◌<◌, ◌↔◌, [], Some, length, IsTrue, IfOk};
+ghost use Rattle.reload_base.specs.Outside.{Writes};
 ghost use Rattle.reload_base.specs.Fakes.{counted, next_fails, IsFaultless};
 
 use crate::calls::Calls;
@@ -11,8 +11,8 @@ use crate::sink::{Sink, Wrote};
 use std::alloc::Global;
 use std::marker::Model;
 
-/// Bytes in memory that grow at the end, a fake of the outside. Contracts see the bytes that were written, and
-/// beside them the calls.
+/// Bytes in memory that grow at the end, a fake of the outside. Contracts see the bytes that were
+/// written, and beside them the calls.
 #[derive(Debug, Drop)]
 pub struct MemorySink {
     written: Bytes,
@@ -35,10 +35,11 @@ impl Model for MemorySink {
 impl MemorySink {
     /// A sink with nothing written. The calls whose numbers are in `fail`, counted from 1, fail.
     pub fn new(alloc: Global, fail: &[u64]) -> Result<MemorySink, NoMemory>
-        ensures written { IfOk result (λ s. ⟦<MemorySink as Sink>⟧.written s ≡ Some []) }
-        ensures faults { IfOk result (λ s. ⟦<MemorySink as Sink>⟧.faults s ≡ 0) }
+        ensures view { IfOk result (λ s. ⟦<MemorySink as Sink>⟧.view s
+            ≡ record { written = Some []; faults = 0 }) }
         ensures faultless { fail.now ≡ [] → IfOk result (λ s. IsFaultless s.1) }
-        ensures calls { IfOk result (λ s. s.1 ≡ record { made = 0; failing = fail.now; faults = 0 }) }
+        ensures calls { IfOk result (λ s.
+            s.1 ≡ record { made = 0; failing = fail.now; faults = 0 }) }
     {
         Ok(MemorySink {
             written: List::new(alloc),
@@ -48,23 +49,20 @@ impl MemorySink {
 
     /// What was written.
     pub fn as_slice(&self) -> &[u8]
-        ensures { ⟦<MemorySink as Sink>⟧.written self.now ≡ Some result.now }
+        ensures { (⟦<MemorySink as Sink>⟧.view self.now).written ≡ Some result.now }
     {
         self.written.as_slice()
     }
 }
 
 impl Sink for MemorySink {
-    ghost written = { λ s. Some s.0 };
-
-    ghost faults = { λ s. s.1.faults };
+    ghost view = { λ s. record { written = Some s.0; faults = s.1.faults } };
 
     /// Appends the whole piece, unless the call is one that fails or memory is missing.
     fn write(&mut self, piece: &[u8]) -> Wrote
         requires { 0 < length piece.now }
-        ensures bytes { AppendsFront (Some self.old.0) (Some self.new.0) result piece.now }
-        ensures later { self.old.1.faults ≤ self.new.1.faults }
-        ensures failed { result ≡ Wrote.Failed → Rose self.old.1.faults self.new.1.faults }
+        ensures written { Writes (⟦<MemorySink as Sink>⟧.view self.old)
+            (⟦<MemorySink as Sink>⟧.view self.new) result piece.now }
         ensures whole { (n : ℕ) → result ≡ Wrote.Some n → n ≡ length piece.now }
         ensures fails { (result ≡ Wrote.Failed) ↔ IsTrue (next_fails self.old.1) }
         ensures calls { self.new.1 ≡ counted self.old.1 }

@@ -1,7 +1,7 @@
 //! A source over bytes in memory.
 
-ghost use Rattle.std.specs.Prelude.{◌≡◌, ◌<◌, ◌≤◌, [], Some, min, length, IfOk, if◌then◌else◌};
-ghost use Rattle.reload_base.specs.Outside.{TakesFront, Rose};
+ghost use Rattle.std.specs.Prelude.{◌≡◌, ◌<◌, [], Some, min, length, IfOk, if◌then◌else◌};
+ghost use Rattle.reload_base.specs.Outside.{Reads};
 ghost use Rattle.reload_base.specs.Fakes.{counted, next_fails, IsFaultless};
 
 use crate::calls::Calls;
@@ -11,8 +11,8 @@ use crate::source::{Source, Took};
 use std::alloc::Global;
 use std::marker::Model;
 
-/// Bytes in memory that are read from the front to the end, a fake of the outside. Contracts see the bytes
-/// that are left, and beside them the calls.
+/// Bytes in memory that are read from the front to the end, a fake of the outside. Contracts see
+/// the bytes that are left, and beside them the calls.
 #[derive(Debug, Drop)]
 pub struct MemorySource {
     content: Bytes,
@@ -36,12 +36,14 @@ impl Model for MemorySource {
 }
 
 impl MemorySource {
-    /// A source that has this content left. The calls whose numbers are in `fail`, counted from 1, fail.
+    /// A source that has this content left. The calls whose numbers are in `fail`, counted from 1,
+    /// fail.
     pub fn new(alloc: Global, content: &[u8], fail: &[u64]) -> Result<MemorySource, NoMemory>
-        ensures content { IfOk result (λ s. ⟦<MemorySource as Source>⟧.left s ≡ Some content.now) }
-        ensures faults { IfOk result (λ s. ⟦<MemorySource as Source>⟧.faults s ≡ 0) }
+        ensures view { IfOk result (λ s. ⟦<MemorySource as Source>⟧.view s
+            ≡ record { left = Some content.now; faults = 0 }) }
         ensures faultless { fail.now ≡ [] → IfOk result (λ s. IsFaultless s.1) }
-        ensures calls { IfOk result (λ s. s.1 ≡ record { made = 0; failing = fail.now; faults = 0 }) }
+        ensures calls { IfOk result (λ s.
+            s.1 ≡ record { made = 0; failing = fail.now; faults = 0 }) }
     {
         Ok(MemorySource {
             content: List::from_slice(alloc, content)?,
@@ -52,16 +54,13 @@ impl MemorySource {
 }
 
 impl Source for MemorySource {
-    ghost left = { λ s. Some s.0 };
-
-    ghost faults = { λ s. s.1.faults };
+    ghost view = { λ s. record { left = Some s.0; faults = s.1.faults } };
 
     /// Moves as many bytes as are left and have a place, unless the call is one that fails.
     fn read(&mut self, buf: &mut [u8]) -> Took
         requires { 0 < length buf.old }
-        ensures bytes { TakesFront (Some self.old.0) (Some self.new.0) result buf.new }
-        ensures later { self.old.1.faults ≤ self.new.1.faults }
-        ensures failed { result ≡ Took.Failed → Rose self.old.1.faults self.new.1.faults }
+        ensures taken { Reads (⟦<MemorySource as Source>⟧.view self.old)
+            (⟦<MemorySource as Source>⟧.view self.new) result buf.new }
         ensures answer { result ≡ (if next_fails self.old.1 then Took.Failed
             else Took.Some (min (length self.old.0) (length buf.old))) }
         ensures calls { self.new.1 ≡ counted self.old.1 }

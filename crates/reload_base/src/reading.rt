@@ -1,14 +1,17 @@
 //! Reading a source to its end.
 
-ghost use Rattle.std.specs.Prelude.{◌≡◌, ℕ, ◌^◌, ◌<◌, ◌≤◌, List, length, IfOk, IfErr};
-ghost use Rattle.std.specs.Io.KnownBytes.{Consumes, IsAtEnd};
-ghost use Rattle.reload_base.specs.Outside.{Rose};
-ghost use Rattle.reload_base.specs.Whole.{StopsAt};
+ghost use Rattle.reload_base.specs.Whole.{ReadsAll};
 
 use crate::list::Bytes;
 use crate::no_memory::NoMemory;
 use crate::source::{Source, Took};
 use std::alloc::Global;
+
+/// The most bytes of the input of a program (this profile).
+pub const MAX_INPUT: usize = 16_777_216;
+
+/// The most bytes that are read at once (this profile).
+pub const MAX_READ: usize = 4_096;
 
 /// Why a source wasn't read to its end.
 #[derive(Clone, Copy, Debug, PartialEq, Eq)]
@@ -32,19 +35,13 @@ impl From<NoMemory> for ReadError {
     }
 }
 
-/// Reads a source to its end, at most `most` bytes. `TooLong` comes as soon as more were read, and what was read
-/// is then dropped.
+/// Reads a source to its end, at most `most` bytes. `TooLong` comes with the read that brings more.
+/// After an error what was read is dropped.
 pub fn read_all<S: Source>(alloc: Global, source: &mut S, most: usize) -> Result<Bytes, ReadError>
-    requires { most < 2 ^ 32 }
-    ensures text { IfOk result (λ text. Consumes (S.left source.old) (S.left source.new) text
-        × IsAtEnd (S.left source.new) × (length text ≤ most)) }
-    ensures stopped { IfErr result (λ e. (bytes : List ℕ)
-        × Consumes (S.left source.old) (S.left source.new) bytes × StopsAt most bytes e) }
-    ensures later { S.faults source.old ≤ S.faults source.new }
-    ensures failed { result ≡ Err ReadError.Failed → Rose (S.faults source.old) (S.faults source.new) }
+    ensures { ReadsAll most (S.view source.old) (S.view source.new) result }
 {
     let mut text = Bytes::new(alloc);
-    let mut buffer = [0; 4096];
+    let mut buffer = [0; MAX_READ];
     'pieces: loop {
         match source.read(&mut buffer) {
             Took::Failed => return Err(ReadError::Failed),

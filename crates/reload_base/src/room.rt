@@ -5,8 +5,8 @@ use crate::no_memory::NoMemory;
 use std::alloc::Global;
 use std::marker::Model;
 
-/// A list with memory set aside for further items. Contracts see the list, and beside it the number of items
-/// for which memory is surely there.
+/// A list with memory set aside for further items. Contracts see the list, and beside it the number
+/// of items for which memory is surely there.
 #[derive(Debug, Drop)]
 pub struct Room<T> {
     items: Vec<T>,
@@ -27,7 +27,8 @@ impl<T> Model for Room<T> {
 impl<T: Drop> Room<T> {
     /// Sets memory aside for `n` more items of a list. The `Err` hands the list back as it was.
     pub fn new(list: List<T>, n: usize) -> Result<Room<T>, List<T>>
-        ensures { MatchResult result (λ room. (room.0 ≡ list) × (n ≤ room.1)) (λ back. back ≡ list) }
+        ensures { MatchResult result (λ room. (room.0 ≡ list) × (n ≤ room.1))
+            (λ back. back ≡ list) }
     {
         let mut items = list.into_vec();
         match items.reserve(n) {
@@ -36,7 +37,8 @@ impl<T: Drop> Room<T> {
         }
     }
 
-    /// Adds an item at the end, which can't fail where memory was set aside. It takes at most one of it.
+    /// Adds an item at the end, which can't fail where memory was set aside. It takes at most one
+    /// of it.
     pub fn push(&mut self, item: T) -> Result<(), NoMemory>
         ensures ok { OnOk result (self.new.0 ≡ self.old.0 ++ item ∷ []) }
         ensures err { OnErr result (self.new.0 ≡ self.old.0) }
@@ -47,8 +49,8 @@ impl<T: Drop> Room<T> {
         Ok(())
     }
 
-    /// Adds an item before the one at a place, which can't fail where memory was set aside. It takes at most
-    /// one of it.
+    /// Adds an item before the one at a place, which can't fail where memory was set aside. It
+    /// takes at most one of it.
     pub fn insert(&mut self, index: usize, item: T) -> Result<(), NoMemory>
         requires { index ≤ length self.old.0 }
         ensures ok { OnOk result (self.new.0 ≡ insert self.old.0 index item) }

@@ -1,7 +1,7 @@
 //! Where bytes come from.
 
-ghost use Rattle.std.specs.Prelude.{◌≡◌, ℕ, ◌<◌, ◌≤◌, List, length, Option};
-ghost use Rattle.reload_base.specs.Outside.{TakesFront, Rose};
+ghost use Rattle.std.specs.Prelude.{ℕ, ◌<◌, length};
+ghost use Rattle.reload_base.specs.Outside.{SourceView, Reads};
 
 /// What a read took.
 #[derive(Clone, Copy, Debug, PartialEq, Eq)]
@@ -14,16 +14,11 @@ pub enum Took {
 
 /// Bytes that are read from the front to the end.
 pub trait Source {
-    /// The bytes that are left, where the source tells.
-    ghost left: { Self → Option (List ℕ) };
-
-    /// How many faults there were, which never falls and ends at 2^64 - 1.
-    ghost faults: { Self → ℕ };
+    /// The bytes that are left, where the source tells, and how many reads failed.
+    ghost view: { Self → SourceView };
 
     /// Moves bytes that are left to the front of a buffer, which isn't empty.
     fn read(&mut self, buf: &mut [u8]) -> Took
         requires { 0 < length buf.old }
-        ensures bytes { TakesFront (left self.old) (left self.new) result buf.new }
-        ensures later { faults self.old ≤ faults self.new }
-        ensures failed { result ≡ Took.Failed → Rose (faults self.old) (faults self.new) };
+        ensures { Reads (view self.old) (view self.new) result buf.new };
 }

@@ -1,8 +1,6 @@
 //! Writing a whole piece to a sink.
 
-ghost use Rattle.std.specs.Prelude.{◌≡◌, ℕ, ◌≤◌, length, take, OnOk, OnErr};
-ghost use Rattle.std.specs.Io.KnownBytes.{Appends};
-ghost use Rattle.reload_base.specs.Outside.{Rose};
+ghost use Rattle.reload_base.specs.Whole.{WritesAll};
 
 use crate::no_memory::NoMemory;
 use crate::sink::{Sink, Wrote};
@@ -27,14 +25,10 @@ impl From<NoMemory> for WriteError {
     }
 }
 
-/// Writes a piece on until the sink has taken it whole. An empty piece writes nothing. After an error a part from
-/// the piece's front stands in the sink.
+/// Writes a piece on until the sink has taken it whole. An empty piece writes nothing. After an
+/// error a front of the piece stands in the sink.
 pub fn write_all<K: Sink>(sink: &mut K, piece: &[u8]) -> Result<(), WriteError>
-    ensures whole { OnOk result (Appends (K.written sink.old) (K.written sink.new) piece.now) }
-    ensures prefix { OnErr result ((n : ℕ) × (n ≤ length piece.now)
-        × Appends (K.written sink.old) (K.written sink.new) (take n piece.now)) }
-    ensures later { K.faults sink.old ≤ K.faults sink.new }
-    ensures failed { result ≡ Err WriteError.Failed → Rose (K.faults sink.old) (K.faults sink.new) }
+    ensures { WritesAll (K.view sink.old) (K.view sink.new) piece.now result }
 {
     let mut rest = piece;
     'pieces: while !rest.is_empty() {

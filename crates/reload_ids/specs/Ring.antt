@@ -9,6 +9,7 @@ distance a b = (b + 2 ^ 128 - a) % 2 ^ 128
 abbrev pub Between : ℕ → ℕ → ℕ → Type 0
 Between a k b = (a ≡ b) ⊎ ((0 < distance a k) × (distance a k ≤ distance a b))
 
--- a range's share of the ring in parts of 10^9, rounded down by its low 32 bits first (RFC 6940, 6.4.2.5)
+-- a range's share of the ring in parts of 10^9, rounded down by its low 32 bits first (RFC 6940,
+-- 6.4.2.5)
 abbrev pub ppb : ℕ → ℕ
 ppb range = range / 2 ^ 32 * 1_000_000_000 / 2 ^ 96

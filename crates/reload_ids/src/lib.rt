@@ -1,4 +1,5 @@
-//! Node-IDs and Resource-IDs of 128 bits (RFC 6940, sections 6.3.1.1 and 10.2), and the ring that they form.
+//! Node-IDs and Resource-IDs of 128 bits (RFC 6940, sections 6.3.1.1 and 10.2), and the ring that
+//! they form.
 #![tactic(auto)]
 
 ghost use Rattle.std.specs.Prelude.{◌≡◌};
@@ -8,6 +9,9 @@ mod ring;
 
 pub use ring::{between, distance, ppb};
 use sha1::Sha1;
+
+/// The bytes of an id (this profile).
+pub const ID_LENGTH: u8 = 16;
 
 /// The place of a node on the ring.
 #[derive(Clone, Copy, Debug, PartialEq, Eq, PartialOrd, Ord)]
@@ -29,8 +33,8 @@ pub fn resource_of(name: &[u8]) -> ResourceId
     ]))
 }
 
-/// The number that stands for an overlay in each message: the last 4 of the 20 bytes of the SHA-1 of its name
-/// (RFC 6940, section 6.3.2).
+/// The number that stands for an overlay in each message: the last 4 of the 20 bytes of the SHA-1
+/// of its name (RFC 6940, section 6.3.2).
 #[tactic(auto, unfolding(crate::specs::Ids::overlay_id))]
 pub fn overlay_of(name: &[u8]) -> u32
     ensures { result ≡ overlay_id name.now }

@@ -10,7 +10,8 @@ pub fn distance(a: u128, b: u128) -> u128
     b.wrapping_sub(a)
 }
 
-/// Whether `k` comes after `a`, up to and including `b`. Where `a` is `b` the interval is the whole ring.
+/// Whether `k` comes after `a`, up to and including `b`. Where `a` is `b` the interval is the whole
+/// ring.
 pub fn between(a: u128, k: u128, b: u128) -> bool
     ensures { IsTrue result ↔ Between a k b }
 {

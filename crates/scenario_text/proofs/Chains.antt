@@ -7,8 +7,8 @@ use Rattle.std.proofs.lemmas.Option.{same_Some}
 use Rattle.text_words.specs.Steps.{◌>>=◌}
 use Rattle.text_words.specs.Lines.{is_sound_line, is_passed_over}
 use Rattle.text_words.proofs.StepsLaws.{bind_some}
-use Rattle.scenario_text.specs.declared.draft.Draft.{Draft}
-use Rattle.scenario_text.specs.Reading.{said_at, line_at, next_or_bad, reading_from}
+use Rattle.scenario_text.specs.declared.scenario.Scenario.{Scenario}
+use Rattle.scenario_text.specs.Reading.{said_at, line_at, next_or_bad, read_on, reading_from}
 use Rattle.scenario_text.specs.Scenarios.{said}
 
 -- ---- the lines that say something
@@ -46,21 +46,21 @@ said_from-append n (line ∷ lines) more =
 
 -- ---- reading them
 
--- the draft after numbered lines that say something
-pub reads : Draft → List (ℕ × List ℕ) → Option Draft
+-- what is read of numbered lines that say something
+pub reads : Option Scenario → List (ℕ × List ℕ) → Option (Option Scenario)
 reads so_far [] = Some so_far
-reads so_far (l ∷ ls) = said_at so_far l.0 l.1 >>= λ next. reads next ls
+reads so_far (l ∷ ls) = said_at so_far l.0 l.1 >>= λ next. reads (Some next) ls
 
-pub reads-nil : (so_far : Draft) → reads so_far [] ≡ Some so_far
+pub reads-nil : (so_far : Option Scenario) → reads so_far [] ≡ Some so_far
 unfolding reads
 reads-nil so_far = refl
 
--- the first line gave a draft, from which the others are read
-pub reads-takes : (so_far : Draft) (l : ℕ × List ℕ) (ls : List (ℕ × List ℕ)) (last : Draft) → reads so_far (l ∷ ls) ≡ Some last → (next : Draft) × (said_at so_far l.0 l.1 ≡ Some next) × (reads next ls ≡ Some last)
+-- the first line said something, from which the others are read
+pub reads-takes : (so_far : Option Scenario) (l : ℕ × List ℕ) (ls : List (ℕ × List ℕ)) (last : Option Scenario) → reads so_far (l ∷ ls) ≡ Some last → (next : Scenario) × (said_at so_far l.0 l.1 ≡ Some next) × (reads (Some next) ls ≡ Some last)
 unfolding reads
 reads-takes so_far l ls last e = bind_some (said_at so_far l.0 l.1) _ last e
 
-pub reads-step : (so_far : Draft) (l : ℕ × List ℕ) (ls : List (ℕ × List ℕ)) (next : Draft) → said_at so_far l.0 l.1 ≡ Some next → reads so_far (l ∷ ls) ≡ reads next ls
+pub reads-step : (so_far : Option Scenario) (l : ℕ × List ℕ) (ls : List (ℕ × List ℕ)) (next : Scenario) → said_at so_far l.0 l.1 ≡ Some next → reads so_far (l ∷ ls) ≡ reads (Some next) ls
 unfolding reads
 reads-step so_far l ls next step = rw step refl
 
@@ -70,24 +70,30 @@ reads-step so_far l ls next step = rw step refl
 abbrev pub AreSound : List (List ℕ) → Type 0
 AreSound lines = AllByRecursion (λ l. is_sound_line l ≡ true) lines
 
--- a line that is in the grammar gave a draft, from which the others are read
-next_ok : (n : ℕ) (found : Option Draft) (next : Draft → Result Draft ℕ) (last : Draft) → next_or_bad n found next ≡ Ok last → (d : Draft) × (found ≡ Some d) × (next d ≡ Ok last)
+-- a line that is in the grammar was read, and from it the others are
+next_ok : (n : ℕ) (found : Option (Option Scenario)) (next : Option Scenario → Result (Option Scenario) ℕ) (last : Option Scenario) → next_or_bad n found next ≡ Ok last → (d : Option Scenario) × (found ≡ Some d) × (next d ≡ Ok last)
 next_ok n None next last e = cc
 next_ok n (Some d) next last e = (d, refl, e)
 
--- a line in the grammar is sound, and is passed over or says something
-line_at-takes : (so_far : Draft) (n : ℕ) (line : List ℕ) (next : Draft) → line_at so_far n line ≡ Some next
-    → (is_sound_line line ≡ true) × (((is_passed_over line ≡ true) × (so_far ≡ next)) ⊎ ((is_passed_over line ≡ false) × (said_at so_far n line ≡ Some next)))
-unfolding line_at
-line_at-takes so_far n line next e = by_tests (is_sound_line line) (is_passed_over line) (said_at so_far n line) e
-  where
-    by_tests : (sound passed : Bool) (found : Option Draft) → cond (not sound) None (cond passed (Some so_far) found) ≡ Some next
-        → (sound ≡ true) × (((passed ≡ true) × (so_far ≡ next)) ⊎ ((passed ≡ false) × (found ≡ Some next)))
-    by_tests false passed found e = cc
-    by_tests true true found e = (refl, inl (refl, same_Some so_far next e))
-    by_tests true false found e = (refl, inr (refl, e))
+-- what a line said
+read_on-takes : (found : Option Scenario) (next : Option Scenario) → read_on found ≡ Some next → (s : Scenario) × (found ≡ Some s) × (Some s ≡ next)
+read_on-takes None next e = absurd cc
+read_on-takes (Some s) next e = (s, refl, same_Some (Some s) next e)
 
-pub reading_from-takes : (so_far : Draft) (n : ℕ) (lines : List (List ℕ)) (last : Draft) → reading_from so_far n lines ≡ Ok last → AreSound lines × (reads so_far (said_from n lines) ≡ Some last)
+-- a line in the grammar is sound, and is passed over or says something
+abbrev Passes : Option Scenario → ℕ → List ℕ → Option Scenario → Type 0
+Passes so_far n line next = ((is_passed_over line ≡ true) × (so_far ≡ next)) ⊎ ((is_passed_over line ≡ false) × ((s : Scenario) × (said_at so_far n line ≡ Some s) × (Some s ≡ next)))
+
+line_at-takes : (so_far : Option Scenario) (n : ℕ) (line : List ℕ) (next : Option Scenario) → line_at so_far n line ≡ Some next → (is_sound_line line ≡ true) × Passes so_far n line next
+unfolding line_at
+line_at-takes so_far n line next e = by_tests (is_sound_line line) refl (is_passed_over line) refl e
+  where
+    by_tests : (sound : Bool) → is_sound_line line ≡ sound → (passed : Bool) → is_passed_over line ≡ passed → cond (not sound) None (cond passed (Some so_far) (read_on (said_at so_far n line))) ≡ Some next → (is_sound_line line ≡ true) × Passes so_far n line next
+    by_tests false is passed over e = absurd cc
+    by_tests true is true over e = (is, inl (over, same_Some so_far next e))
+    by_tests true is false over e = (is, inr (over, read_on-takes (said_at so_far n line) next e))
+
+pub reading_from-takes : (so_far : Option Scenario) (n : ℕ) (lines : List (List ℕ)) (last : Option Scenario) → reading_from so_far n lines ≡ Ok last → AreSound lines × (reads so_far (said_from n lines) ≡ Some last)
 unfolding reading_from
 reading_from-takes so_far n [] last e = (tt, rw (said_from-nil n) (reads-nil so_far ∙ ap Some (cc e)))
 reading_from-takes so_far n (line ∷ lines) last e =
@@ -97,11 +103,12 @@ reading_from-takes so_far n (line ∷ lines) last e =
       (here.0, later.0),
       elim here.1 [
         | inl passed ↦ rw (said_from-passed n line lines passed.0, passed.1) later.1
-        | inr says ↦ rw (said_from-said n line lines says.0) (reads-step so_far (n, line) (said_from (n + 1) lines) step.0 says.1 ∙ later.1)
+        | inr says ↦
+            rw (said_from-said n line lines says.0) (reads-step so_far (n, line) (said_from (n + 1) lines) says.1.0 says.1.1 ∙ ap (λ (d : Option Scenario). reads d (said_from (n + 1) lines)) says.1.2 ∙ later.1)
       ],
     )
 
-pub reading_from-again : (so_far : Draft) (n : ℕ) (lines : List (List ℕ)) (last : Draft) → AreSound lines → reads so_far (said_from n lines) ≡ Some last → reading_from so_far n lines ≡ Ok last
+pub reading_from-again : (so_far : Option Scenario) (n : ℕ) (lines : List (List ℕ)) (last : Option Scenario) → AreSound lines → reads so_far (said_from n lines) ≡ Some last → reading_from so_far n lines ≡ Ok last
 unfolding reading_from line_at
 reading_from-again so_far n [] last sound e = ap Ok (same_Some so_far last (sym (reads-nil so_far) ∙ ap (reads so_far) (sym (said_from-nil n)) ∙ e))
 reading_from-again so_far n (line ∷ lines) last sound e =
@@ -109,5 +116,5 @@ reading_from-again so_far n (line ∷ lines) last sound e =
       | inl passed ↦ rw (sound.0, passed) (reading_from-again so_far (n + 1) lines last sound.1 (ap (reads so_far) (sym (said_from-passed n line lines passed)) ∙ e))
       | inr says ↦
           let step = reads-takes so_far (n, line) (said_from (n + 1) lines) last (ap (reads so_far) (sym (said_from-said n line lines says)) ∙ e) in
-          rw (sound.0, says, step.1) (reading_from-again step.0 (n + 1) lines last sound.1 step.2)
+          rw (sound.0, says, step.1) (reading_from-again (Some step.0) (n + 1) lines last sound.1 step.2)
     ]

@@ -1,129 +1,254 @@
--- A line of a declaration is read exactly where it spells what it declares.
-use Rattle.std.proofs.Common.{◌≡◌, ◌≢◌, ℕ, ◌-◌, ◌^◌, ◌<◌, ◌≤◌, true, List, ◌∷◌, ◌++◌, Some, refl, sym, ap, subst, ◌∙◌, append_assoc, arith}
-use Rattle.std.specs.Prelude.{◌==◌, not}
+-- The lines of declarations are read exactly where they are what they spell.
+use Rattle.std.proofs.Common.{◌≡◌, ◌≢◌, ℕ, zero, suc, ◌-◌, ◌^◌, ◌<◌, ◌≤◌, Bool, true, false, ◌&&◌, List, [], ◌∷◌, Option, Some, None, refl, sym, ap, subst, ◌∙◌, arith}
+use Rattle.std.specs.Prelude.{codes, ◌==◌, nat_le, nat_lt}
 use Rattle.std.specs.Fmt.{decimal}
-use Rattle.std.proofs.lemmas.Bool.{and_parts, eqb-false, ne_eqb, not-true}
-use Rattle.std.proofs.lemmas.Option.{same_Some}
-use Rattle.text_words.specs.Steps.{allowed}
-use Rattle.text_words.specs.Decimal.{decimal_of}
-use Rattle.text_words.specs.Id.{id_text}
+use Rattle.std.proofs.lemmas.Bool.{and_parts, eqb-true, leb-true, le-leb, ltb-true, lt-ltb}
+use Rattle.std.proofs.lemmas.Option.{same_Some, some_pair_parts}
+use Rattle.text_words.specs.Codec.{IsCodec}
+use Rattle.text_words.specs.Decimal.{decimal_of, number_of}
+use Rattle.text_words.specs.Id.{id_of, id_text}
 use Rattle.text_words.specs.Name.{is_name, IsName}
-use Rattle.text_words.specs.Separator.{behind}
-use Rattle.text_words.proofs.StepsLaws.{bind_some, allowed_some}
-use Rattle.text_words.proofs.SeparatorLaws.{behind-takes, behind-append}
-use Rattle.text_words.proofs.DecimalLaws.{decimal_of-takes, decimal_of-decimal}
+use Rattle.text_words.specs.Separator.{Lacks}
+use Rattle.text_words.specs.Steps.{◌>>=◌, allowed, part_of, only_of, fixed_of}
+use Rattle.text_words.proofs.CodecLaws.{fixed_codec, tested_codec}
+use Rattle.text_words.proofs.DecimalLaws.{decimal_codec, number_codec}
+use Rattle.text_words.proofs.IdLaws.{id_codec}
+use Rattle.text_words.proofs.Lacking.{decimal-has_no, id_text-has_no, name-has_no, Lacks-fixed}
 use Rattle.text_words.proofs.NameLaws.{is_name-IsName}
+use Rattle.text_words.proofs.PiecesLaws.{AllLack}
+use Rattle.text_words.proofs.StepsLaws.{bind_some, allowed_some, part_of-takes, only_of-takes, only_of-again, only_codec}
+use Rattle.access_policy.specs.declared.Policy.{Policy}
+use Rattle.access_policy.specs.declared.Policy.TheVariants.{UserMatch, NodeMatch, UserNodeMatch, NodeMultiple}
+use Rattle.data_models.specs.declared.config.TheConstants.{MAX_COUNT, MAX_SIZE, MAX_MULTIPLE}
+use Rattle.data_models.specs.declared.config.DataModel.{DataModel}
+use Rattle.data_models.specs.declared.config.DataModel.TheVariants.{Single, Array, Dictionary}
 use Rattle.data_models.specs.declared.config.KindDef.{KindDef}
-use Rattle.data_models.specs.declared.config.DataModel.TheVariants.{Single}
+use Rattle.data_models.specs.Configs.{IsKind, IsMultiple}
+use Rattle.scenario_text.specs.declared.scenario.TheConstants.{MAX_NUMBER}
 use Rattle.scenario_text.specs.declared.scenario.DeclaredNode.{DeclaredNode}
-use Rattle.scenario_text.specs.declared.fixed.Fixed.TheVariants as fixed
-use Rattle.scenario_text.specs.Texts.{text_of}
-use Rattle.scenario_text.specs.Scenarios.{overlay_line, kind_line, node_line, IsDeclaredKind, IsDeclaredNode}
-use Rattle.scenario_text.specs.Reading.{name_at, kind_at, node_parts, node_at, number_before, node_id_before, are_apart}
-use Rattle.scenario_text.proofs.WordLaws.{number_before-takes, number_before-again, node_id_before-takes, node_id_before-again}
+use Rattle.scenario_text.specs.declared.scenario.Role.{Role}
+use Rattle.scenario_text.specs.Lines.Overlay.{name_of, overlay_of, overlay_words}
+use Rattle.scenario_text.specs.Lines.Kind.{model_of, model_text, policy_of, policy_text, is_keyed, is_multiple, kind_of, kind_words, limits_in, IsKindLine}
+use Rattle.scenario_text.specs.Lines.Node.{node_id_of, node_of, node_parts, node_words, IsNode}
 
--- ---- the overlay
+-- ---- names
 
-pub name_at-takes : (line name : List ℕ) → name_at line ≡ Some name → (line ≡ overlay_line name) × IsName name
-unfolding name_at overlay_line
-name_at-takes line name e =
-    let a = bind_some (behind (text_of fixed.Overlay) line) _ name e in
-    let b = bind_some (allowed (is_name a.0)) _ name a.2 in
-    let same = same_Some a.0 name b.2 in
-    (behind-takes (text_of fixed.Overlay) line a.0 a.1 ∙ ap (λ name. text_of fixed.Overlay ++ name) same, subst IsName same ((is_name-IsName a.0).0 (allowed_some (is_name a.0) b.0 b.1)))
+pub name_codec : IsCodec name_of (λ name. name) IsName
+unfolding name_of
+name_codec = tested_codec is_name IsName is_name-IsName
 
-pub name_at-again : (name : List ℕ) → IsName name → name_at (overlay_line name) ≡ Some name
-unfolding name_at overlay_line
-name_at-again name is = rw (behind-append (text_of fixed.Overlay) name, (is_name-IsName name).1 is) refl
+pub overlay_codec : IsCodec overlay_of overlay_words IsName
+unfolding overlay_of
+overlay_codec = only_codec name_of (λ name. name) IsName name_codec
 
--- ---- the kind
+-- ---- kinds
 
-kind_line-parts : (kind : KindDef) → kind_line kind ≡ text_of fixed.Kind ++ (decimal kind.id ++ 32 ∷ (text_of fixed.Model ++ (decimal kind.max_size ++ 32 ∷ decimal 0)))
-unfolding kind_line
-kind_line-parts kind = simp append_assoc
+model-again : (model : DataModel) → fixed_of model_text (Single ∷ Array ∷ Dictionary ∷ []) (model_text model) ≡ Some model
+unfolding model_text
+model-again Single = refl
+model-again Array = refl
+model-again Dictionary = refl
 
-pub kind_at-takes : (line : List ℕ) (kind : KindDef) → kind_at line ≡ Some kind → (line ≡ kind_line kind) × IsDeclaredKind kind
-unfolding kind_at
-kind_at-takes line kind e =
-    let a = bind_some (behind (text_of fixed.Kind) line) _ kind e in
-    let b = bind_some (number_before 32 0 (2 ^ 32 - 1) a.0) _ kind a.2 in
-    let c = bind_some (behind (text_of fixed.Model) b.0.1) _ kind b.2 in
-    let d = bind_some (number_before 32 1 140000 c.0) _ kind c.2 in
-    let z = bind_some (decimal_of 0 d.0.1) _ kind d.2 in
-    let id = number_before-takes 32 0 (2 ^ 32 - 1) a.0 b.0.0 b.0.1 (omega arith) b.1 in
-    let size = number_before-takes 32 1 140000 c.0 d.0.0 d.0.1 (omega arith) d.1 in
-    let zero = decimal_of-takes 0 d.0.1 z.0 (omega arith) z.1 in
-    let none : z.0 ≡ 0 = omega (arith, zero.0) in
-    let read : KindDef = record { id = b.0.0; model = Single; max_count = 1; max_size = d.0.0 } in
-    let spelled : line ≡ text_of fixed.Kind ++ (decimal b.0.0 ++ 32 ∷ (text_of fixed.Model ++ (decimal d.0.0 ++ 32 ∷ decimal 0))) =
-    cc (behind-takes (text_of fixed.Kind) line a.0 a.1, id.0, behind-takes (text_of fixed.Model) b.0.1 c.0 c.1, size.0, zero.1, none) in
-    subst (λ (k : KindDef). (line ≡ kind_line k) × IsDeclaredKind k) (same_Some read kind z.2)
-    (spelled ∙ sym (kind_line-parts read), record { id = omega (arith, id.2); model = refl; count = refl; limits = record { count_from = omega arith; count_to = omega arith; size_from = size.1; size_to = size.2 } })
+model_codec : IsCodec model_of model_text (λ _. Unit {0})
+unfolding model_of
+model_codec = fixed_codec model_text (Single ∷ Array ∷ Dictionary ∷ []) model-again
 
-pub kind_at-again : (kind : KindDef) → IsDeclaredKind kind → kind_at (kind_line kind) ≡ Some kind
-unfolding kind_at
-kind_at-again kind is =
-    let read : KindDef = record { id = kind.id; model = Single; max_count = 1; max_size = kind.max_size } in
-    let same : read ≡ kind = λ i. record { id = kind.id; model = sym is.model i; max_count = sym is.count i; max_size = kind.max_size } in
-    let id : kind.id < 2 ^ 32 = is.id in
-    let from : 1 ≤ kind.max_size = is.limits.size_from in
-    let to : kind.max_size ≤ 140000 = is.limits.size_to in
+policy-again : (policy : Policy) → fixed_of policy_text (UserMatch ∷ NodeMatch ∷ UserNodeMatch ∷ NodeMultiple ∷ []) (policy_text policy) ≡ Some policy
+unfolding policy_text
+policy-again UserMatch = refl
+policy-again NodeMatch = refl
+policy-again UserNodeMatch = refl
+policy-again NodeMultiple = refl
+
+policy_codec : IsCodec policy_of policy_text (λ _. Unit {0})
+unfolding policy_of
+policy_codec = fixed_codec policy_text (UserMatch ∷ NodeMatch ∷ UserNodeMatch ∷ NodeMultiple ∷ []) policy-again
+
+-- the test of a number of resources
+multiple-takes : (policy : Policy) (multiple : ℕ) → is_multiple policy multiple ≡ true → multiple ≤ MAX_MULTIPLE → IsMultiple policy multiple
+multiple-takes NodeMultiple multiple e most = (leb-true 1 multiple e, most)
+multiple-takes UserMatch multiple e most = eqb-true multiple 0 e
+multiple-takes NodeMatch multiple e most = eqb-true multiple 0 e
+multiple-takes UserNodeMatch multiple e most = eqb-true multiple 0 e
+
+multiple-again : (policy : Policy) (multiple : ℕ) → IsMultiple policy multiple → (is_multiple policy multiple ≡ true) × (multiple ≤ MAX_MULTIPLE)
+multiple-again NodeMultiple multiple is = (le-leb 1 multiple is.0, is.1)
+multiple-again UserMatch multiple is = (rw is refl, omega (arith, is))
+multiple-again NodeMatch multiple is = (rw is refl, omega (arith, is))
+multiple-again UserNodeMatch multiple is = (rw is refl, omega (arith, is))
+
+-- the test of a policy and a model
+keyed-takes : (policy : Policy) (model : DataModel) → is_keyed policy model ≡ true → policy ≡ UserNodeMatch → model ≡ Dictionary
+keyed-takes UserNodeMatch Single e same = absurd cc
+keyed-takes UserNodeMatch Array e same = absurd cc
+keyed-takes UserNodeMatch Dictionary e same = refl
+keyed-takes UserMatch model e same = absurd cc
+keyed-takes NodeMatch model e same = absurd cc
+keyed-takes NodeMultiple model e same = absurd cc
+
+keyed-again : (policy : Policy) (model : DataModel) → (policy ≡ UserNodeMatch → model ≡ Dictionary) → is_keyed policy model ≡ true
+keyed-again UserNodeMatch Single keyed = let no : Single ≡ Dictionary = keyed refl in absurd cc
+keyed-again UserNodeMatch Array keyed = let no : Array ≡ Dictionary = keyed refl in absurd cc
+keyed-again UserNodeMatch Dictionary keyed = refl
+keyed-again UserMatch Single keyed = refl
+keyed-again UserMatch Array keyed = refl
+keyed-again UserMatch Dictionary keyed = refl
+keyed-again NodeMatch Single keyed = refl
+keyed-again NodeMatch Array keyed = refl
+keyed-again NodeMatch Dictionary keyed = refl
+keyed-again NodeMultiple Single keyed = refl
+keyed-again NodeMultiple Array keyed = refl
+keyed-again NodeMultiple Dictionary keyed = refl
+
+-- two tests that both hold
+both : (a b : Bool) → a ≡ true → b ≡ true → (a && b) ≡ true
+both a b is_a is_b = rw (is_a, is_b) refl
+
+limits_in-takes : (words : List (List ℕ)) (limits : ℕ × ℕ × ℕ) → limits_in words ≡ Some limits
+    → (((1 ≤ limits.0) × (limits.0 ≤ MAX_COUNT)) × (limits.1 ≤ MAX_SIZE) × (limits.2 ≤ MAX_MULTIPLE)) × (words ≡ decimal limits.0 ∷ decimal limits.1 ∷ decimal limits.2 ∷ [])
+unfolding limits_in
+limits_in-takes words limits e =
+    let a = bind_some (part_of (number_of 1 MAX_COUNT) words) _ limits e in
+    let b = bind_some (part_of (decimal_of MAX_SIZE) a.0.1) _ limits a.2 in
+    let c = bind_some (only_of (decimal_of MAX_MULTIPLE) b.0.1) _ limits b.2 in
+    let count = part_of-takes (number_of 1 MAX_COUNT) decimal (λ n. (1 ≤ n) × (n ≤ MAX_COUNT)) (number_codec 1 MAX_COUNT (omega arith)) words a.0.0 a.0.1 a.1 in
+    let size = part_of-takes (decimal_of MAX_SIZE) decimal (λ n. n ≤ MAX_SIZE) (decimal_codec MAX_SIZE (omega arith)) a.0.1 b.0.0 b.0.1 b.1 in
+    let multiple = only_of-takes (decimal_of MAX_MULTIPLE) decimal (λ n. n ≤ MAX_MULTIPLE) (decimal_codec MAX_MULTIPLE (omega arith)) b.0.1 c.0 c.1 in
+    subst (λ (l : ℕ × ℕ × ℕ). (((1 ≤ l.0) × (l.0 ≤ MAX_COUNT)) × (l.1 ≤ MAX_SIZE) × (l.2 ≤ MAX_MULTIPLE)) × (words ≡ decimal l.0 ∷ decimal l.1 ∷ decimal l.2 ∷ []))
+    (same_Some (a.0.0, b.0.0, c.0) limits c.2)
+    ((count.0, size.0, multiple.0), count.1 ∙ ap (λ (more : List (List ℕ)). decimal a.0.0 ∷ more) (size.1 ∙ ap (λ (more : List (List ℕ)). decimal b.0.0 ∷ more) multiple.1))
+
+limits_in-again : (count size multiple : ℕ) → (1 ≤ count) × (count ≤ MAX_COUNT) → size ≤ MAX_SIZE → multiple ≤ MAX_MULTIPLE → limits_in (decimal count ∷ decimal size ∷ decimal multiple ∷ []) ≡ Some (count, size, multiple)
+unfolding limits_in
+limits_in-again count size multiple is_count is_size is_multiple =
     rw (
-      kind_line-parts kind,
-      behind-append (text_of fixed.Kind) (decimal kind.id ++ 32 ∷ (text_of fixed.Model ++ (decimal kind.max_size ++ 32 ∷ decimal 0))),
-      number_before-again 32 0 (2 ^ 32 - 1) kind.id (text_of fixed.Model ++ (decimal kind.max_size ++ 32 ∷ decimal 0)) (omega arith) refl (omega arith) (omega arith),
-      behind-append (text_of fixed.Model) (decimal kind.max_size ++ 32 ∷ decimal 0),
-      number_before-again 32 1 140000 kind.max_size (decimal 0) (omega arith) refl from to,
-      decimal_of-decimal 0 0 (omega arith) (omega arith),
-    ) (ap Some same)
+      (number_codec 1 MAX_COUNT (omega arith)).again count is_count,
+      (decimal_codec MAX_SIZE (omega arith)).again size is_size,
+      only_of-again (decimal_of MAX_MULTIPLE) decimal (λ n. n ≤ MAX_MULTIPLE) (decimal_codec MAX_MULTIPLE (omega arith)) multiple is_multiple,
+    ) refl
+
+kind_of-takes : (words : List (List ℕ)) (kind : KindDef) → kind_of words ≡ Some kind → IsKindLine kind × (words ≡ kind_words kind)
+unfolding kind_of
+kind_of-takes words kind e =
+    let a = bind_some (part_of (decimal_of (2 ^ 32 - 1)) words) _ kind e in
+    let b = bind_some (part_of model_of a.0.1) _ kind a.2 in
+    let c = bind_some (part_of policy_of b.0.1) _ kind b.2 in
+    let d = bind_some (limits_in c.0.1) _ kind c.2 in
+    let f = bind_some (allowed (is_multiple c.0.0 d.0.2 && is_keyed c.0.0 b.0.0)) _ kind d.2 in
+    let id = part_of-takes (decimal_of (2 ^ 32 - 1)) decimal (λ n. n ≤ 2 ^ 32 - 1) (decimal_codec (2 ^ 32 - 1) (omega arith)) words a.0.0 a.0.1 a.1 in
+    let model = part_of-takes model_of model_text (λ _. Unit {0}) model_codec a.0.1 b.0.0 b.0.1 b.1 in
+    let policy = part_of-takes policy_of policy_text (λ _. Unit {0}) policy_codec b.0.1 c.0.0 c.0.1 c.1 in
+    let limits = limits_in-takes c.0.1 d.0 d.1 in
+    let tests = and_parts (is_multiple c.0.0 d.0.2) (is_keyed c.0.0 b.0.0) (allowed_some (is_multiple c.0.0 d.0.2 && is_keyed c.0.0 b.0.0) f.0 f.1) in
+    subst (λ (k : KindDef). IsKindLine k × (words ≡ kind_words k))
+    (same_Some (record { id = a.0.0; model = b.0.0; policy = c.0.0; max_count = d.0.0; max_size = d.0.1; multiple = d.0.2 }) kind f.2) (
+      (
+        id.0,
+        record {
+          count_from = limits.0.0.0;
+          count_to = limits.0.0.1;
+          size = limits.0.1;
+          multiple = multiple-takes c.0.0 d.0.2 tests.0 limits.0.2;
+          keyed = keyed-takes c.0.0 b.0.0 tests.1;
+        },
+      ),
+      id.1 ∙ ap (λ (more : List (List ℕ)). decimal a.0.0 ∷ more) (model.1 ∙ ap (λ (more : List (List ℕ)). model_text b.0.0 ∷ more) (policy.1 ∙ ap (λ (more : List (List ℕ)). policy_text c.0.0 ∷ more) limits.1)),
+    )
+
+kind_of-again : (kind : KindDef) → IsKindLine kind → kind_of (kind_words kind) ≡ Some kind
+unfolding kind_of
+kind_of-again kind is =
+    let multiple = multiple-again kind.policy kind.multiple is.1.multiple in
+    rw (
+      (decimal_codec (2 ^ 32 - 1) (omega arith)).again kind.id is.0,
+      model_codec.again kind.model tt,
+      policy_codec.again kind.policy tt,
+      limits_in-again kind.max_count kind.max_size kind.multiple (is.1.count_from, is.1.count_to) is.1.size multiple.1,
+      both (is_multiple kind.policy kind.multiple) (is_keyed kind.policy kind.model) multiple.0 (keyed-again kind.policy kind.model is.1.keyed),
+    ) refl
+
+pub kind_codec : IsCodec kind_of kind_words IsKindLine
+kind_codec = record { takes = kind_of-takes; again = kind_of-again }
+
+model_text-lacks : (model : DataModel) → Lacks 32 (model_text model)
+unfolding model_text
+model_text-lacks Single = Lacks-fixed 32 (codes "single") refl
+model_text-lacks Array = Lacks-fixed 32 (codes "array") refl
+model_text-lacks Dictionary = Lacks-fixed 32 (codes "dictionary") refl
+
+policy_text-lacks : (policy : Policy) → Lacks 32 (policy_text policy)
+unfolding policy_text
+policy_text-lacks UserMatch = Lacks-fixed 32 (codes "user-match") refl
+policy_text-lacks NodeMatch = Lacks-fixed 32 (codes "node-match") refl
+policy_text-lacks UserNodeMatch = Lacks-fixed 32 (codes "user-node-match") refl
+policy_text-lacks NodeMultiple = Lacks-fixed 32 (codes "node-multiple") refl
+
+pub kind-lacks : (kind : KindDef) → IsKindLine kind → AllLack 32 (kind_words kind)
+kind-lacks kind is =
+    let multiple = decimal-has_no 32 kind.multiple (omega (arith, (multiple-again kind.policy kind.multiple is.1.multiple).1)) refl in
+    let size = decimal-has_no 32 kind.max_size (omega (arith, is.1.size)) refl in
+    let count = decimal-has_no 32 kind.max_count (omega (arith, is.1.count_to)) refl in
+    (decimal-has_no 32 kind.id (omega (arith, is.0)) refl, (model_text-lacks kind.model, (policy_text-lacks kind.policy, (count, (size, (multiple, tt))))))
 
 -- ---- nodes
 
-node_line-parts : (word : List ℕ) (node : DeclaredNode) → node_line word node ≡ word ++ (decimal node.number ++ 32 ∷ (id_text node.node.0 ++ 32 ∷ node.user))
-unfolding node_line
-node_line-parts word node = simp append_assoc
+abbrev IsNodeId : ℕ → Type 0
+IsNodeId id = (0 < id) × (id < 2 ^ 128 - 1)
+
+node_id_of-takes : (word : List ℕ) (id : ℕ) → node_id_of word ≡ Some id → IsNodeId id × (word ≡ id_text id)
+unfolding node_id_of
+node_id_of-takes word id e =
+    let a = bind_some (id_of word) _ id e in
+    let b = bind_some (allowed (nat_lt 0 a.0 && nat_lt a.0 (2 ^ 128 - 1))) _ id a.2 in
+    let tests = and_parts (nat_lt 0 a.0) (nat_lt a.0 (2 ^ 128 - 1)) (allowed_some (nat_lt 0 a.0 && nat_lt a.0 (2 ^ 128 - 1)) b.0 b.1) in
+    subst (λ (n : ℕ). IsNodeId n × (word ≡ id_text n)) (same_Some a.0 id b.2) ((ltb-true 0 a.0 tests.0, ltb-true a.0 (2 ^ 128 - 1) tests.1), (id_codec.takes word a.0 a.1).1)
+
+node_id_of-again : (id : ℕ) → IsNodeId id → node_id_of (id_text id) ≡ Some id
+unfolding node_id_of
+node_id_of-again id is = rw (id_codec.again id (omega (arith, is.1)), lt-ltb 0 id is.0, lt-ltb id (2 ^ 128 - 1) is.1) refl
+
+node_id_codec : IsCodec node_id_of id_text IsNodeId
+node_id_codec = record { takes = node_id_of-takes; again = node_id_of-again }
 
 -- the three words of a node
-abbrev node_of : ℕ × ℕ × List ℕ → DeclaredNode
-node_of parts = record { number = parts.0; node = record { 0 = parts.1 }; user = parts.2 }
+abbrev IsParts : ℕ × ℕ × List ℕ → Type 0
+IsParts node = ((1 ≤ node.0) × (node.0 ≤ MAX_NUMBER)) × IsNodeId node.1 × IsName node.2
 
-node_parts-takes : (word line : List ℕ) (parts : ℕ × ℕ × List ℕ) → node_parts word line ≡ Some parts → (line ≡ node_line word (node_of parts)) × IsDeclaredNode (node_of parts)
+abbrev parts_words : ℕ × ℕ × List ℕ → List (List ℕ)
+parts_words node = decimal node.0 ∷ id_text node.1 ∷ node.2 ∷ []
+
+node_parts-takes : (words : List (List ℕ)) (node : ℕ × ℕ × List ℕ) → node_parts words ≡ Some node → IsParts node × (words ≡ parts_words node)
 unfolding node_parts
-node_parts-takes word line parts e =
-    let a = bind_some (behind word line) _ parts e in
-    let b = bind_some (number_before 32 1 9999 a.0) _ parts a.2 in
-    let c = bind_some (node_id_before b.0.1) _ parts b.2 in
-    let d = bind_some (allowed (is_name c.0.1)) _ parts c.2 in
-    let number = number_before-takes 32 1 9999 a.0 b.0.0 b.0.1 (omega arith) b.1 in
-    let id = node_id_before-takes b.0.1 c.0.0 c.0.1 c.1 in
-    let read : ℕ × ℕ × List ℕ = (b.0.0, c.0.0, c.0.1) in
-    let spelled : line ≡ word ++ (decimal b.0.0 ++ 32 ∷ (id_text c.0.0 ++ 32 ∷ c.0.1)) = cc (behind-takes word line a.0 a.1, number.0, id.0) in
-    subst (λ (p : ℕ × ℕ × List ℕ). (line ≡ node_line word (node_of p)) × IsDeclaredNode (node_of p)) (same_Some read parts d.2)
-    (spelled ∙ sym (node_line-parts word (node_of read)), record { number_from = number.1; number_to = number.2; id_from = id.1; id_to = id.2; user = (is_name-IsName c.0.1).0 (allowed_some (is_name c.0.1) d.0 d.1) })
+node_parts-takes words node e =
+    let a = bind_some (part_of (number_of 1 MAX_NUMBER) words) _ node e in
+    let b = bind_some (part_of node_id_of a.0.1) _ node a.2 in
+    let c = bind_some (only_of name_of b.0.1) _ node b.2 in
+    let number = part_of-takes (number_of 1 MAX_NUMBER) decimal (λ n. (1 ≤ n) × (n ≤ MAX_NUMBER)) (number_codec 1 MAX_NUMBER (omega arith)) words a.0.0 a.0.1 a.1 in
+    let id = part_of-takes node_id_of id_text IsNodeId node_id_codec a.0.1 b.0.0 b.0.1 b.1 in
+    let user = only_of-takes name_of (λ name. name) IsName name_codec b.0.1 c.0 c.1 in
+    subst (λ (n : ℕ × ℕ × List ℕ). IsParts n × (words ≡ parts_words n)) (same_Some (a.0.0, b.0.0, c.0) node c.2)
+    ((number.0, id.0, user.0), number.1 ∙ ap (λ (more : List (List ℕ)). decimal a.0.0 ∷ more) (id.1 ∙ ap (λ (more : List (List ℕ)). id_text b.0.0 ∷ more) user.1))
 
-pub node_at-takes : (word line : List ℕ) (node : DeclaredNode) → node_at word line ≡ Some node → (line ≡ node_line word node) × IsDeclaredNode node
-unfolding node_at
-node_at-takes word line node e =
-    let a = bind_some (node_parts word line) _ node e in
-    subst (λ (n : DeclaredNode). (line ≡ node_line word n) × IsDeclaredNode n) (same_Some (node_of a.0) node a.2) (node_parts-takes word line a.0 a.1)
-
-pub node_at-again : (word : List ℕ) (node : DeclaredNode) → IsDeclaredNode node → node_at word (node_line word node) ≡ Some node
-unfolding node_at node_parts
-node_at-again word node is =
+node_parts-again : (node : ℕ × ℕ × List ℕ) → IsParts node → node_parts (parts_words node) ≡ Some node
+unfolding node_parts
+node_parts-again (number, id, user) is =
     rw (
-      node_line-parts word node,
-      behind-append word (decimal node.number ++ 32 ∷ (id_text node.node.0 ++ 32 ∷ node.user)),
-      number_before-again 32 1 9999 node.number (id_text node.node.0 ++ 32 ∷ node.user) (omega arith) refl is.number_from is.number_to,
-      node_id_before-again node.node.0 node.user is.id_from is.id_to,
-      (is_name-IsName node.user).1 is.user,
+      (number_codec 1 MAX_NUMBER (omega arith)).again number is.0,
+      node_id_codec.again id is.1,
+      only_of-again name_of (λ name. name) IsName name_codec user is.2,
     ) refl
 
--- ---- the client beside the peer
+pub node_of-takes : (role : Role) (words : List (List ℕ)) (node : DeclaredNode) → node_of role words ≡ Some node → (node.role ≡ role) × IsNode node × (words ≡ node_words node)
+unfolding node_of
+node_of-takes role words node e =
+    let a = bind_some (node_parts words) _ node e in
+    let read = node_parts-takes words a.0 a.1 in
+    subst (λ (n : DeclaredNode). (n.role ≡ role) × IsNode n × (words ≡ node_words n)) (same_Some (record { number = a.0.0; role = role; node = record { 0 = a.0.1 }; user = a.0.2 }) node a.2)
+    (refl, record { number = read.0.0; id = read.0.1; user = read.0.2 }, read.1)
 
-pub are_apart-takes : (client peer : DeclaredNode) → are_apart client peer ≡ true → (client.number ≢ peer.number) × (client.node.0 ≢ peer.node.0)
-are_apart-takes client peer e =
-    let tests = and_parts (not (client.number == peer.number)) (not (client.node.0 == peer.node.0)) e in
-    (eqb-false client.number peer.number (not-true (client.number == peer.number) tests.0), eqb-false client.node.0 peer.node.0 (not-true (client.node.0 == peer.node.0) tests.1))
+pub node_of-again : (node : DeclaredNode) → IsNode node → node_of node.role (node_words node) ≡ Some node
+unfolding node_of
+node_of-again node is = rw (node_parts-again (node.number, node.node.0, node.user) (is.number, is.id, is.user)) refl
 
-pub are_apart-again : (client peer : DeclaredNode) → client.number ≢ peer.number → client.node.0 ≢ peer.node.0 → are_apart client peer ≡ true
-are_apart-again client peer numbers ids = rw (ne_eqb client.number peer.number numbers, ne_eqb client.node.0 peer.node.0 ids) refl
+pub node-lacks : (node : DeclaredNode) → IsNode node → AllLack 32 (node_words node)
+node-lacks node is = (decimal-has_no 32 node.number (omega (arith, is.number.1)) refl, (id_text-has_no 32 node.node.0 refl, (name-has_no 32 node.user is.user refl, tt)))

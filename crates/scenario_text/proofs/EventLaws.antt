@@ -1,203 +1,192 @@
--- A line of an event is read exactly where it spells one.
-use Rattle.std.proofs.Common.{◌≡◌, ℕ, ◌-◌, ◌^◌, ◌<◌, ◌≤◌, List, ◌++◌, Option, Some, None, refl, subst, inl, inr, arith}
-use Rattle.std.specs.Prelude.{◌⊎◌, nat_le}
+-- The lines of events are read exactly where they are what they spell.
+use Rattle.std.proofs.Common.{◌≡◌, ℕ, ◌-◌, ◌^◌, ◌<◌, ◌≤◌, Bool, true, false, List, [], ◌∷◌, ◌++◌, length, Option, Some, None, refl, sym, ap, subst, ◌∙◌, arith}
+use Rattle.std.specs.Prelude.{codes, map, IfSome}
 use Rattle.std.specs.Fmt.{decimal}
-use Rattle.std.proofs.lemmas.Bool.{leb-true, le-leb}
-use Rattle.std.proofs.lemmas.Option.{same_Some}
-use Rattle.text_words.specs.Steps.{◌>>=◌, allowed}
-use Rattle.text_words.specs.Decimal.{decimal_of}
-use Rattle.text_words.specs.Separator.{behind}
-use Rattle.text_words.proofs.StepsLaws.{bind_some, allowed_some}
-use Rattle.text_words.proofs.SeparatorLaws.{behind-takes, behind-append}
-use Rattle.text_words.proofs.DecimalLaws.{decimal_of-takes, decimal_of-decimal}
-use Rattle.scenario_text.specs.declared.scenario.Scenario.{Scenario}
-use Rattle.scenario_text.specs.declared.scenario.EventKind.{EventKind}
-use Rattle.scenario_text.specs.declared.scenario.EventKind.TheVariants.{Clock, Store, Fetch, Deliver, Drain}
+use Rattle.std.specs.List.{AllByRecursion, flat_map}
+use Rattle.std.proofs.lemmas.Option.{same_Some, some_pair_parts}
+use Rattle.text_words.specs.Codec.{IsCodec}
+use Rattle.text_words.specs.Decimal.{decimal_of, number_of}
+use Rattle.text_words.specs.Labelled.{labelled, labelled_words, first_behind, optional_of}
+use Rattle.text_words.specs.Separator.{Lacks, behind}
+use Rattle.text_words.specs.Steps.{◌>>=◌, allowed, part_of, each_of}
+use Rattle.text_words.proofs.CodecLaws.{each_codec}
+use Rattle.text_words.proofs.DecimalLaws.{decimal_codec, number_codec, decimal_of-decimal}
+use Rattle.text_words.proofs.LabelledLaws.{IsLimited, IsUnlabelled, optional_of-takes, optional_of-again}
+use Rattle.text_words.proofs.Lacking.{decimal-has_no, Lacks-fixed}
+use Rattle.text_words.proofs.PiecesLaws.{AllLack}
+use Rattle.text_words.proofs.SeparatorLaws.{Lacks-append, behind-other}
+use Rattle.text_words.proofs.StepsLaws.{bind_some, allowed_some, part_of-takes, only_codec}
+use Rattle.scenario_text.specs.declared.lines.clock.TheConstants.{MAX_CLOCK}
+use Rattle.scenario_text.specs.declared.lines.drain.TheConstants.{MAX_DRAIN}
+use Rattle.scenario_text.specs.declared.request.Address.{Address}
+use Rattle.scenario_text.specs.declared.scenario.StoreEvent.{StoreEvent}
 use Rattle.scenario_text.specs.declared.scenario.FetchEvent.{FetchEvent}
-use Rattle.scenario_text.specs.declared.fixed.Fixed.TheVariants as fixed
-use Rattle.scenario_text.specs.Texts.{text_of}
-use Rattle.scenario_text.specs.Scenarios.{request_front, fetch_line, clock_line, deliver_line, drain_line, event_line, IsEvent}
-use Rattle.scenario_text.specs.Reading.{addressed_at, request_at, store_at, fetch_at, number_behind, ◌or_else◌, other_at, event_at}
-use Rattle.scenario_text.proofs.RequestLaws.{store_at-takes, store_at-again, fetch_at-takes, fetch_at-again}
+use Rattle.scenario_text.specs.declared.scenario.SpecifierWord.{SpecifierWord}
+use Rattle.scenario_text.specs.Resources.{resource_of, resource_text, IsResource}
+use Rattle.scenario_text.specs.Requests.{address_of, address_words, IsAddress}
+use Rattle.scenario_text.specs.Groups.{group_words, groups_of, AreGroups}
+use Rattle.scenario_text.specs.Specifiers.{specifier_of, specifier_text, IsSpecifier}
+use Rattle.scenario_text.specs.Lines.Clock.{clock_of, clock_words, IsClock}
+use Rattle.scenario_text.specs.Lines.Deliver.{deliver_of, deliver_words, IsDeliver}
+use Rattle.scenario_text.specs.Lines.Drain.{drain_of, drain_words, IsDrain}
+use Rattle.scenario_text.specs.Lines.Store.{store_of, store_words, IsStore}
+use Rattle.scenario_text.specs.Lines.Fetch.{are_asked, fetch_of, fetch_words, IsFetch}
+use Rattle.scenario_text.proofs.GroupLaws.{groups_codec, groups-lack}
+use Rattle.scenario_text.proofs.ResourceLaws.{resource_codec, resource_text-lacks}
+use Rattle.scenario_text.proofs.SpecifierLaws.{specifier_codec, specifier_text-lacks, elsewhere_m, elsewhere_space}
 
--- ---- a number behind a word
+-- ---- numbers
 
-number_behind-takes : (word : List ℕ) (least most : ℕ) (line : List ℕ) (n : ℕ) → most < 2 ^ 64 → number_behind word least most line ≡ Some n → (line ≡ word ++ decimal n) × (least ≤ n) × (n ≤ most)
-unfolding number_behind
-number_behind-takes word least most line n small e =
-    let a = bind_some (behind word line) _ n e in
-    let b = bind_some (decimal_of most a.0) _ n a.2 in
-    let c = bind_some (allowed (nat_le least b.0)) _ n b.2 in
-    let digits = decimal_of-takes most a.0 b.0 small b.1 in
-    let same = same_Some b.0 n c.2 in
-    let from = leb-true least b.0 (allowed_some (nat_le least b.0) c.0 c.1) in
-    (cc (behind-takes word line a.0 a.1, digits.1, same), omega (arith, from, same), omega (arith, digits.0, same))
+pub clock_codec : IsCodec clock_of clock_words IsClock
+unfolding clock_of
+clock_codec = only_codec (number_of 1 MAX_CLOCK) decimal IsClock (number_codec 1 MAX_CLOCK (omega arith))
 
-number_behind-again : (word : List ℕ) (least most n : ℕ) → most < 2 ^ 64 → least ≤ n → n ≤ most → number_behind word least most (word ++ decimal n) ≡ Some n
-unfolding number_behind
-number_behind-again word least most n small from to = rw (behind-append word (decimal n), decimal_of-decimal most n small to, le-leb least n from) refl
+pub deliver_codec : IsCodec deliver_of deliver_words IsDeliver
+unfolding deliver_of
+deliver_codec = only_codec (decimal_of (2 ^ 64 - 1)) decimal IsDeliver (decimal_codec (2 ^ 64 - 1) (omega arith))
 
--- ---- lines of other events
+pub drain_codec : IsCodec drain_of drain_words IsDrain
+unfolding drain_of
+drain_codec = only_codec (number_of 1 MAX_DRAIN) decimal IsDrain (number_codec 1 MAX_DRAIN (omega arith))
 
-number_behind-other : (word : List ℕ) (least most : ℕ) (line : List ℕ) → behind word line ≡ None → number_behind word least most line ≡ None
-unfolding number_behind
-number_behind-other word least most line other = rw other refl
+-- ---- addresses
 
-store_at-other : (s : Scenario) (line : List ℕ) → behind (text_of fixed.Store) line ≡ None → store_at s line ≡ None
-unfolding store_at request_at addressed_at
-store_at-other s line other = rw other refl
+address_of-takes : (words : List (List ℕ)) (address : Address) (rest : List (List ℕ)) → address_of words ≡ Some (address, rest) → IsAddress address × (words ≡ address_words address rest)
+unfolding address_of
+address_of-takes words address rest e =
+    let a = bind_some (part_of (decimal_of (2 ^ 32 - 1)) words) _ (address, rest) e in
+    let b = bind_some (part_of (decimal_of (2 ^ 32 - 1)) a.0.1) _ (address, rest) a.2 in
+    let c = bind_some (part_of resource_of b.0.1) _ (address, rest) b.2 in
+    let number = decimal_codec (2 ^ 32 - 1) (omega arith) in
+    let client = part_of-takes (decimal_of (2 ^ 32 - 1)) decimal (λ n. n ≤ 2 ^ 32 - 1) number words a.0.0 a.0.1 a.1 in
+    let peer = part_of-takes (decimal_of (2 ^ 32 - 1)) decimal (λ n. n ≤ 2 ^ 32 - 1) number a.0.1 b.0.0 b.0.1 b.1 in
+    let resource = part_of-takes resource_of resource_text IsResource resource_codec b.0.1 c.0.0 c.0.1 c.1 in
+    let made : Address = record { client = a.0.0; peer = b.0.0; resource = c.0.0 } in
+    let same : ◌≡◌ {A = Address × List (List ℕ)} (made, c.0.1) (address, rest) = same_Some (made, c.0.1) (address, rest) c.2 in
+    subst (λ (r : Address × List (List ℕ)). IsAddress r.0 × (words ≡ address_words r.0 r.1)) same (
+      record { client = client.0; peer = peer.0; resource = resource.0 },
+      client.1 ∙ ap (λ (more : List (List ℕ)). decimal a.0.0 ∷ more) (peer.1 ∙ ap (λ (more : List (List ℕ)). decimal b.0.0 ∷ more) resource.1),
+    )
 
-fetch_at-other : (s : Scenario) (line : List ℕ) → behind (text_of fixed.Fetch) line ≡ None → fetch_at s line ≡ None
-unfolding fetch_at request_at addressed_at
-fetch_at-other s line other = rw other refl
-
--- the first words differ
-store-fetch : (s : Scenario) (e : FetchEvent) → behind (text_of fixed.Store) (fetch_line s e) ≡ None
-unfolding fetch_line request_front behind text_of
-store-fetch s e = refl
-
-store-deliver : (k : ℕ) → behind (text_of fixed.Store) (deliver_line k) ≡ None
-unfolding deliver_line behind text_of
-store-deliver k = refl
-
-store-drain : (n : ℕ) → behind (text_of fixed.Store) (drain_line n) ≡ None
-unfolding drain_line behind text_of
-store-drain n = refl
-
-store-clock : (ms : ℕ) → behind (text_of fixed.Store) (clock_line ms) ≡ None
-unfolding clock_line behind text_of
-store-clock ms = refl
-
-fetch-deliver : (k : ℕ) → behind (text_of fixed.Fetch) (deliver_line k) ≡ None
-unfolding deliver_line behind text_of
-fetch-deliver k = refl
-
-fetch-drain : (n : ℕ) → behind (text_of fixed.Fetch) (drain_line n) ≡ None
-unfolding drain_line behind text_of
-fetch-drain n = refl
-
-fetch-clock : (ms : ℕ) → behind (text_of fixed.Fetch) (clock_line ms) ≡ None
-unfolding clock_line behind text_of
-fetch-clock ms = refl
-
-deliver-drain : (n : ℕ) → behind (text_of fixed.Deliver) (drain_line n) ≡ None
-unfolding drain_line behind text_of
-deliver-drain n = refl
-
-deliver-clock : (ms : ℕ) → behind (text_of fixed.Deliver) (clock_line ms) ≡ None
-unfolding clock_line behind text_of
-deliver-clock ms = refl
-
-drain-clock : (ms : ℕ) → behind (text_of fixed.Drain) (clock_line ms) ≡ None
-unfolding clock_line behind text_of
-drain-clock ms = refl
-
--- ---- any event
-
-or_else-takes : {A : Type 0} (o other : Option A) (x : A) → (o or_else other) ≡ Some x → (o ≡ Some x) ⊎ (other ≡ Some x)
-or_else-takes None other x e = inr e
-or_else-takes (Some y) other x e = inl e
-
--- what an event was made of
-made : {A : Type 0} (o : Option A) (make : A → EventKind) (what : EventKind) → (o >>= λ a. Some (make a)) ≡ Some what → (a : A) × (o ≡ Some a) × (make a ≡ what)
-made o make what e =
-    let a = bind_some o _ what e in
-    (a.0, a.1, same_Some (make a.0) what a.2)
-
--- a line spells an event
-abbrev Spells : Scenario → List ℕ → EventKind → Type 0
-Spells s line what = (line ≡ event_line s what) × IsEvent s.config what
-
-deliver-takes : (s : Scenario) (line : List ℕ) (what : EventKind) → (number_behind (text_of fixed.Deliver) 0 (2 ^ 64 - 1) line >>= λ k. Some (Deliver k)) ≡ Some what → Spells s line what
-unfolding deliver_line
-deliver-takes s line what e =
-    let a = made (number_behind (text_of fixed.Deliver) 0 (2 ^ 64 - 1) line) Deliver what e in
-    let parts = number_behind-takes (text_of fixed.Deliver) 0 (2 ^ 64 - 1) line a.0 (omega arith) a.1 in
-    subst (Spells s line) a.2 (parts.0, omega (arith, parts.2))
-
-drain-takes : (s : Scenario) (line : List ℕ) (what : EventKind) → (number_behind (text_of fixed.Drain) 1 1000000 line >>= λ n. Some (Drain n)) ≡ Some what → Spells s line what
-unfolding drain_line
-drain-takes s line what e =
-    let a = made (number_behind (text_of fixed.Drain) 1 1000000 line) Drain what e in
-    let parts = number_behind-takes (text_of fixed.Drain) 1 1000000 line a.0 (omega arith) a.1 in
-    subst (Spells s line) a.2 (parts.0, (parts.1, parts.2))
-
-clock-takes : (s : Scenario) (line : List ℕ) (what : EventKind) → (number_behind (text_of fixed.Clock) 1 1000000000 line >>= λ ms. Some (Clock ms)) ≡ Some what → Spells s line what
-unfolding clock_line
-clock-takes s line what e =
-    let a = made (number_behind (text_of fixed.Clock) 1 1000000000 line) Clock what e in
-    let parts = number_behind-takes (text_of fixed.Clock) 1 1000000000 line a.0 (omega arith) a.1 in
-    subst (Spells s line) a.2 (parts.0, (parts.1, parts.2))
-
-other_at-takes : (s : Scenario) (line : List ℕ) (what : EventKind) → other_at line ≡ Some what → Spells s line what
-unfolding other_at
-other_at-takes s line what e =
-    let deliver : Option EventKind = number_behind (text_of fixed.Deliver) 0 (2 ^ 64 - 1) line >>= λ k. Some (Deliver k) in
-    let drain : Option EventKind = number_behind (text_of fixed.Drain) 1 1000000 line >>= λ n. Some (Drain n) in
-    let clock : Option EventKind = number_behind (text_of fixed.Clock) 1 1000000000 line >>= λ ms. Some (Clock ms) in
-    elim (or_else-takes deliver (drain or_else clock) what e) [
-      | inl is ↦ deliver-takes s line what is
-      | inr later ↦ elim (or_else-takes drain clock what later) [ inl is ↦ drain-takes s line what is | inr is ↦ clock-takes s line what is ]
-    ]
-
-store-takes : (s : Scenario) (line : List ℕ) (what : EventKind) → (store_at s line >>= λ e. Some (Store e)) ≡ Some what → Spells s line what
-store-takes s line what e =
-    let a = made (store_at s line) Store what e in
-    subst (Spells s line) a.2 (store_at-takes s line a.0 a.1)
-
-fetch-takes : (s : Scenario) (line : List ℕ) (what : EventKind) → (fetch_at s line >>= λ e. Some (Fetch e)) ≡ Some what → Spells s line what
-fetch-takes s line what e =
-    let a = made (fetch_at s line) Fetch what e in
-    subst (Spells s line) a.2 (fetch_at-takes s line a.0 a.1)
-
-pub event_at-takes : (s : Scenario) (line : List ℕ) (what : EventKind) → event_at s line ≡ Some what → (line ≡ event_line s what) × IsEvent s.config what
-unfolding event_at
-event_at-takes s line what e =
-    let store : Option EventKind = store_at s line >>= λ e. Some (Store e) in
-    let fetch : Option EventKind = fetch_at s line >>= λ e. Some (Fetch e) in
-    elim (or_else-takes store (fetch or_else other_at line) what e) [
-      | inl is ↦ store-takes s line what is
-      | inr later ↦ elim (or_else-takes fetch (other_at line) what later) [ inl is ↦ fetch-takes s line what is | inr is ↦ other_at-takes s line what is ]
-    ]
-
--- ---- and backwards
-
-deliver_line-again : (k : ℕ) → k < 2 ^ 64 → number_behind (text_of fixed.Deliver) 0 (2 ^ 64 - 1) (deliver_line k) ≡ Some k
-unfolding deliver_line
-deliver_line-again k to = number_behind-again (text_of fixed.Deliver) 0 (2 ^ 64 - 1) k (omega arith) (omega arith) (omega arith)
-
-drain_line-again : (n : ℕ) → 1 ≤ n → n ≤ 1000000 → number_behind (text_of fixed.Drain) 1 1000000 (drain_line n) ≡ Some n
-unfolding drain_line
-drain_line-again n from to = number_behind-again (text_of fixed.Drain) 1 1000000 n (omega arith) from to
-
-clock_line-again : (ms : ℕ) → 1 ≤ ms → ms ≤ 1000000000 → number_behind (text_of fixed.Clock) 1 1000000000 (clock_line ms) ≡ Some ms
-unfolding clock_line
-clock_line-again ms from to = number_behind-again (text_of fixed.Clock) 1 1000000000 ms (omega arith) from to
-
-other_at-deliver : (k : ℕ) → k < 2 ^ 64 → other_at (deliver_line k) ≡ Some (Deliver k)
-unfolding other_at
-other_at-deliver k to = rw (deliver_line-again k to) refl
-
-other_at-drain : (n : ℕ) → 1 ≤ n → n ≤ 1000000 → other_at (drain_line n) ≡ Some (Drain n)
-unfolding other_at
-other_at-drain n from to = rw (number_behind-other (text_of fixed.Deliver) 0 (2 ^ 64 - 1) (drain_line n) (deliver-drain n), drain_line-again n from to) refl
-
-other_at-clock : (ms : ℕ) → 1 ≤ ms → ms ≤ 1000000000 → other_at (clock_line ms) ≡ Some (Clock ms)
-unfolding other_at
-other_at-clock ms from to =
+address_of-again : (address : Address) (rest : List (List ℕ)) → IsAddress address → address_of (address_words address rest) ≡ Some (address, rest)
+unfolding address_of
+address_of-again address rest is =
     rw (
-      number_behind-other (text_of fixed.Deliver) 0 (2 ^ 64 - 1) (clock_line ms) (deliver-clock ms),
-      number_behind-other (text_of fixed.Drain) 1 1000000 (clock_line ms) (drain-clock ms),
-      clock_line-again ms from to,
+      decimal_of-decimal (2 ^ 32 - 1) address.client (omega arith) is.client,
+      decimal_of-decimal (2 ^ 32 - 1) address.peer (omega arith) is.peer,
+      resource_codec.again address.resource is.resource,
     ) refl
 
-pub event_at-again : (s : Scenario) (what : EventKind) → s.client.number < 2 ^ 32 → s.peer.number < 2 ^ 32 → IsEvent s.config what → event_at s (event_line s what) ≡ Some what
-unfolding event_at
-event_at-again s (Store e) client peer is = rw (store_at-again s e client peer is) refl
-event_at-again s (Fetch e) client peer is = rw (store_at-other s (fetch_line s e) (store-fetch s e), fetch_at-again s e client peer is) refl
-event_at-again s (Deliver k) client peer is =
-    rw (store_at-other s (deliver_line k) (store-deliver k), fetch_at-other s (deliver_line k) (fetch-deliver k)) (other_at-deliver k is)
-event_at-again s (Drain n) client peer is =
-    rw (store_at-other s (drain_line n) (store-drain n), fetch_at-other s (drain_line n) (fetch-drain n)) (other_at-drain n is.0 is.1)
-event_at-again s (Clock ms) client peer is =
-    rw (store_at-other s (clock_line ms) (store-clock ms), fetch_at-other s (clock_line ms) (fetch-clock ms)) (other_at-clock ms is.0 is.1)
+address-lacks : (address : Address) (rest : List (List ℕ)) → IsAddress address → AllLack 32 rest → AllLack 32 (address_words address rest)
+address-lacks address rest is lack =
+    (decimal-has_no 32 address.client (omega (arith, is.client)) refl, (decimal-has_no 32 address.peer (omega (arith, is.peer)) refl, (resource_text-lacks address.resource is.resource, lack)))
+
+-- ---- Stores
+
+-- the address of a Store
+abbrev store_address : StoreEvent → Address
+store_address e = record { client = e.client; peer = e.peer; resource = e.resource }
+
+store_of-takes : (words : List (List ℕ)) (event : StoreEvent) → store_of words ≡ Some event → IsStore event × (words ≡ store_words event)
+unfolding store_of
+store_of-takes words event e =
+    let a = bind_some (address_of words) _ event e in
+    let b = bind_some (groups_of a.0.1) _ event a.2 in
+    let address = address_of-takes words a.0.0 a.0.1 a.1 in
+    let groups = groups_codec.takes a.0.1 b.0 b.1 in
+    subst (λ (s : StoreEvent). IsStore s × (words ≡ store_words s))
+    (same_Some (record { client = a.0.0.client; peer = a.0.0.peer; resource = a.0.0.resource; ttl = None; seq = None; groups = b.0 }) event b.2) (
+      record { address = address.0; ttl = refl; seq = refl; groups = groups.0 },
+      address.1 ∙ ap (address_words a.0.0) groups.1,
+    )
+
+-- no word that may be left out is there
+store_words-is : (e : StoreEvent) → IsStore e → store_words e ≡ address_words (store_address e) (flat_map group_words e.groups)
+store_words-is e is = rw (is.ttl, is.seq) refl
+
+store_of-again : (event : StoreEvent) → IsStore event → store_of (store_words event) ≡ Some event
+unfolding store_of
+store_of-again event is =
+    rw (
+      store_words-is event is,
+      address_of-again (store_address event) (flat_map group_words event.groups) is.address,
+      groups_codec.again event.groups is.groups,
+    ) (ap Some (λ i. record event { ttl = sym is.ttl i; seq = sym is.seq i }))
+
+pub store_codec : IsCodec store_of store_words IsStore
+store_codec = record { takes = store_of-takes; again = store_of-again }
+
+pub store-lacks : (e : StoreEvent) → IsStore e → AllLack 32 (store_words e)
+store-lacks e is = subst (AllLack 32) (sym (store_words-is e is)) (address-lacks (store_address e) (flat_map group_words e.groups) is.address (groups-lack e.groups is.groups.1))
+
+-- ---- Fetches
+
+abbrev fetch_address : FetchEvent → Address
+fetch_address e = record { client = e.client; peer = e.peer; resource = e.resource }
+
+-- a limit in both forms
+limited_from : (max : Option ℕ) → IsLimited (2 ^ 32 - 1) max → IfSome max (λ most. most ≤ 2 ^ 32 - 1)
+limited_from None is = tt
+limited_from (Some most) is = is
+
+limited_to : (max : Option ℕ) → IfSome max (λ most. most ≤ 2 ^ 32 - 1) → IsLimited (2 ^ 32 - 1) max
+limited_to None is = tt
+limited_to (Some most) is = is
+
+fetch_of-takes : (words : List (List ℕ)) (event : FetchEvent) → fetch_of words ≡ Some event → IsFetch event × (words ≡ fetch_words event)
+unfolding fetch_of
+fetch_of-takes words event e =
+    let a = bind_some (address_of words) _ event e in
+    let b = bind_some (optional_of (codes "max=") (2 ^ 32 - 1) a.0.1) _ event a.2 in
+    let c = bind_some (each_of specifier_of b.0.1) _ event b.2 in
+    let d = bind_some (allowed (are_asked c.0)) _ event c.2 in
+    let address = address_of-takes words a.0.0 a.0.1 a.1 in
+    let max = optional_of-takes (codes "max=") (2 ^ 32 - 1) a.0.1 b.0.0 b.0.1 (omega arith) b.1 in
+    let specifiers = (each_codec specifier_of specifier_text IsSpecifier specifier_codec).takes b.0.1 c.0 c.1 in
+    subst (λ (f : FetchEvent). IsFetch f × (words ≡ fetch_words f))
+    (same_Some (record { client = a.0.0.client; peer = a.0.0.peer; resource = a.0.0.resource; ttl = None; seq = None; max = b.0.0; specifiers = c.0 }) event d.2) (
+      record {
+        address = address.0;
+        ttl = refl;
+        seq = refl;
+        max = limited_from b.0.0 max.0;
+        asked = allowed_some (are_asked c.0) d.0 d.1;
+        specifiers = specifiers.0;
+      },
+      address.1 ∙ ap (address_words a.0.0) (max.1 ∙ ap (λ (more : List (List ℕ)). labelled_words (codes "max=") b.0.0 ++ more) specifiers.1),
+    )
+
+fetch_words-is : (e : FetchEvent) → IsFetch e → fetch_words e ≡ address_words (fetch_address e) (labelled_words (codes "max=") e.max ++ map specifier_text e.specifiers)
+fetch_words-is e is = rw (is.ttl, is.seq) refl
+
+unlabelled : (specifiers : List SpecifierWord) → AllByRecursion IsSpecifier specifiers → IsUnlabelled (codes "max=") (map specifier_text specifiers)
+unfolding first_behind
+unlabelled [] all = refl
+unlabelled (specifier ∷ specifiers) all = behind-other 109 (codes "ax=") (specifier_text specifier) (specifier_text-lacks 109 specifier elsewhere_m all.0)
+
+fetch_of-again : (event : FetchEvent) → IsFetch event → fetch_of (fetch_words event) ≡ Some event
+unfolding fetch_of
+fetch_of-again event is =
+    rw (
+      fetch_words-is event is,
+      address_of-again (fetch_address event) (labelled_words (codes "max=") event.max ++ map specifier_text event.specifiers) is.address,
+      optional_of-again (codes "max=") (2 ^ 32 - 1) event.max (map specifier_text event.specifiers) (omega arith) (limited_to event.max is.max) (unlabelled event.specifiers is.specifiers),
+      (each_codec specifier_of specifier_text IsSpecifier specifier_codec).again event.specifiers is.specifiers,
+      is.asked,
+    ) (ap Some (λ i. record event { ttl = sym is.ttl i; seq = sym is.seq i }))
+
+pub fetch_codec : IsCodec fetch_of fetch_words IsFetch
+fetch_codec = record { takes = fetch_of-takes; again = fetch_of-again }
+
+specifiers-lack : (specifiers : List SpecifierWord) → AllByRecursion IsSpecifier specifiers → AllLack 32 (map specifier_text specifiers)
+specifiers-lack [] all = tt
+specifiers-lack (specifier ∷ specifiers) all = (specifier_text-lacks 32 specifier elsewhere_space all.0, specifiers-lack specifiers all.1)
+
+max-lacks : (max : Option ℕ) (words : List (List ℕ)) → IfSome max (λ most. most ≤ 2 ^ 32 - 1) → AllLack 32 words → AllLack 32 (labelled_words (codes "max=") max ++ words)
+unfolding labelled
+max-lacks None words is lack = lack
+max-lacks (Some most) words is lack = (Lacks-append 32 (codes "max=") (decimal most) (Lacks-fixed 32 (codes "max=") refl) (decimal-has_no 32 most (omega (arith, is)) refl), lack)
+
+pub fetch-lacks : (e : FetchEvent) → IsFetch e → AllLack 32 (fetch_words e)
+fetch-lacks e is =
+    subst (AllLack 32) (sym (fetch_words-is e is)) (address-lacks (fetch_address e) (labelled_words (codes "max=") e.max ++ map specifier_text e.specifiers) is.address (max-lacks e.max (map specifier_text e.specifiers) is.max (specifiers-lack e.specifiers is.specifiers)))

@@ -4,6 +4,7 @@ use Rattle.std.specs.Prelude.{IfOk, IfErr}
 use Rattle.scenario_text.specs.declared.scenario.Scenario.{Scenario}
 use Rattle.scenario_text.specs.declared.fault.TextFault.{TextFault}
 use Rattle.scenario_text.specs.declared.fault.TextFault.TheVariants.{BadLine, NoMemory}
+use Rattle.data_models.specs.Configs.{IsConfig}
 use Rattle.scenario_text.specs.Scenarios.{IsTextOf}
 use Rattle.scenario_text.specs.Reading.{reading}
 use Rattle.scenario_text.specs.Reads.{Reads, IsBad}
@@ -21,3 +22,8 @@ pub bad_by : (text : List ℕ) (r : Result Scenario TextFault) → Reads r (read
 bad_by text (Ok s) e = tt
 bad_by text (Err (BadLine n)) e = reading-bad text n e
 bad_by text (Err NoMemory) e = tt
+
+-- what is read has a configuration within its limits
+pub config_by : (text : List ℕ) (r : Result Scenario TextFault) → Reads r (reading text) → IfOk r (λ s. IsConfig s.config)
+config_by text (Ok s) e = (reading-takes text s e).scenario.begun.config
+config_by text (Err f) e = tt

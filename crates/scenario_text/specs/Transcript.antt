@@ -1,121 +1,183 @@
 -- The lines of a transcript.
-use Rattle.std.specs.Prelude.{ℕ, ◌==◌, List, [], ◌∷◌, ◌++◌, if◌then◌else◌}
+use Rattle.std.specs.Prelude.{ℕ, ◌==◌, ◌&&◌, Bool, true, false, List, [], ◌∷◌, ◌++◌, Option, Some, None, option_map, find, codes, if◌then◌else◌}
 use Rattle.std.specs.List.{flat_map}
 use Rattle.std.specs.Fmt.{decimal}
+use Rattle.std.specs.Str.{bytes_eq}
 use Rattle.hex.specs.Hex.{encode_lower}
 use Rattle.text_words.specs.Id.{id_text}
-use Rattle.text_words.specs.Lines.{ended}
+use Rattle.text_words.specs.Labelled.{labelled}
+use Rattle.text_words.specs.Lines.{ended, spaced, spaced_by}
 use Rattle.text_words.specs.Transaction.{transaction_text}
-use Rattle.data_models.specs.declared.stored_data.SlotKey.{SlotKey}
-use Rattle.data_models.specs.declared.stored_data.SlotKey.TheVariants.{Whole}
+use Rattle.security_block.specs.declared.about.About.{About}
 use Rattle.data_models.specs.declared.stored_data.StoredData.{StoredData}
+use Rattle.data_models.specs.declared.fetched.Specifier.{Specifier}
+use Rattle.data_models.specs.declared.fetched.StoreKind.{StoreKind}
+use Rattle.data_models.specs.declared.fetched.KindValues.{KindValues}
+use Rattle.data_models.specs.declared.fetched.KindValues.TheVariants.{Known, Raw}
 use Rattle.storage_model.specs.declared.request.Value.{Value}
 use Rattle.storage_model.specs.declared.request.AskedKind.{AskedKind}
 use Rattle.storage_model.specs.declared.request.StoreAsked.{StoreAsked}
 use Rattle.storage_model.specs.declared.request.FetchAsked.{FetchAsked}
+use Rattle.storage_model.specs.declared.request.JoinAsked.{JoinAsked}
 use Rattle.storage_model.specs.declared.request.Asked.{Asked}
-use Rattle.storage_model.specs.declared.request.Asked.TheVariants.{Store, Fetch}
-use Rattle.storage_model.specs.declared.verdict.FetchVerdict.{FetchVerdict}
-use Rattle.storage_model.specs.declared.verdict.FetchVerdict.TheVariants.{Values, Refused}
-use Rattle.data_models.specs.declared.fetched.Specifier.{Specifier}
-use Rattle.data_models.specs.declared.fetched.StoreKind.{StoreKind}
-use Rattle.data_models.specs.declared.fetched.KindValues.{KindValues}
-use Rattle.data_models.specs.declared.fetched.KindValues.TheVariants.{Known}
-use Rattle.storage_model.specs.Verdict.{values_of}
-use Rattle.storage_model.specs.Decisions.{Decision, Answer}
-use Rattle.storage_model.specs.Decisions.Answer.{Decided, Found}
+use Rattle.storage_model.specs.declared.request.Asked.TheVariants as asked
+use Rattle.storage_model.specs.Requests.{values_of}
+use Rattle.storage_model.specs.Decisions.{Answer, Decided, Found, Joined, Decision}
+use Rattle.scenario_text.specs.declared.scenario.Data.{Data}
+use Rattle.scenario_text.specs.declared.scenario.Data.TheVariants.{Nonexistent, Bytes}
+use Rattle.scenario_text.specs.declared.scenario.DeclaredNode.{DeclaredNode}
+use Rattle.scenario_text.specs.declared.scenario.Role.{Role}
+use Rattle.scenario_text.specs.declared.scenario.Role.TheVariants.{Peer, Client}
 use Rattle.scenario_text.specs.declared.scenario.Scenario.{Scenario}
-use Rattle.scenario_text.specs.Scenarios.{declaration_lines}
-use Rattle.scenario_text.specs.declared.fixed.Fixed.TheVariants as fixed
-use Rattle.scenario_text.specs.Texts.{text_of}
+use Rattle.scenario_text.specs.declared.scenario.ValueWord.{ValueWord}
+use Rattle.scenario_text.specs.Desk.{is_role}
+use Rattle.scenario_text.specs.Groups.{head_text}
+use Rattle.scenario_text.specs.Specifiers.{specifier_text}
+use Rattle.scenario_text.specs.Values.{value_text}
+use Rattle.scenario_text.specs.Words.{counter_text, decided_text, number_text}
 
-unfoldable pub key_word : SlotKey → List ℕ
-key_word Whole = 45 ∷ []
+-- the bytes of a value, and all of it, as words tell them
+abbrev pub datum_of : StoredData → Data
+datum_of stored = if stored.present then Bytes stored.value else Nonexistent
 
--- a value's bytes, or the sign of a nonexistent one
-unfoldable pub data_word : StoredData → List ℕ
-data_word stored = if stored.present then 43 ∷ [] ++ encode_lower stored.value else 45 ∷ []
+-- a stored value as its word tells it
+abbrev pub word_of : StoredData → ValueWord
+word_of stored =
+    record {
+      key = stored.key;
+      storage_time = stored.storage_time;
+      lifetime = stored.lifetime;
+      value = datum_of stored;
+    }
 
 -- KEY:TIME:LIFE:DATA
-unfoldable pub stored_words : StoredData → List ℕ
-stored_words stored = key_word stored.key ++ 58 ∷ [] ++ decimal stored.storage_time ++ 58 ∷ [] ++ decimal stored.lifetime ++ 58 ∷ [] ++ data_word stored
+unfoldable pub stored_text : StoredData → List ℕ
+stored_text stored = value_text (word_of stored)
 
--- KEY:TIME:LIFE:DATA:SIGNER:SIZE behind a space
-unfoldable pub value_word : ℕ → Value → List ℕ
-value_word signer v = 32 ∷ [] ++ stored_words v.stored ++ 58 ∷ [] ++ decimal signer ++ 58 ∷ [] ++ decimal v.size
+-- the number of the node with a Node-ID, and of the node that a certificate is about
+unfoldable pub number_of : List DeclaredNode → ℕ → Option ℕ
+number_of nodes id = option_map (λ node. node.number) (find (λ node. node.node.0 == id) nodes)
 
--- kind=ID/GEN and its values behind a space
-unfoldable pub group_words : ℕ → AskedKind → List ℕ
-group_words signer a = 32 ∷ [] ++ text_of fixed.Group ++ decimal a.kind ++ 47 ∷ [] ++ decimal a.generation ++ flat_map (value_word signer) (values_of a)
+-- the role of a certificate: of a peer or a client
+abbrev pub role_of : Bool → Role
+role_of true = Peer
+role_of false = Client
 
--- a Kind-ID and its generation counter behind a space
-unfoldable pub counter_word : ℕ × ℕ → List ℕ
-counter_word counter = 32 ∷ [] ++ decimal counter.0 ++ 58 ∷ [] ++ decimal counter.1
+-- a node is the one that a certificate is about: by Node-ID, role and user
+unfoldable pub is_about : About → DeclaredNode → Bool
+is_about about node =
+    node.node.0 == about.node.0 && is_role (role_of about.peer) node.role
+    && bytes_eq node.user about.user
 
--- ok, or an error's code, behind a space
-unfoldable pub code_words : ℕ → List ℕ
-code_words code = if code == 0 then text_of fixed.Done else text_of fixed.Error ++ decimal code
+-- the number of the node that signed, where one did
+unfoldable pub signer_of : List DeclaredNode → Option About → Option ℕ
+signer_of nodes None = None
+signer_of nodes (Some about) = option_map (λ node. node.number) (find (is_about about) nodes)
 
--- a value that was found behind a space
-unfoldable pub found_word : StoredData → List ℕ
-found_word stored = 32 ∷ [] ++ stored_words stored
+-- KEY:TIME:LIFE:DATA:SIGNER:SIZE
+unfoldable pub asked_value : List DeclaredNode → Value → List ℕ
+asked_value nodes v =
+    decided_text (record {
+      value = word_of v.stored;
+      signer = signer_of nodes v.signer;
+      size = v.size;
+    })
 
-abbrev pub found_words : KindValues → List ℕ
-found_words (Known values) = flat_map found_word values
+-- kind=ID/GEN and its values
+unfoldable pub asked_kind : List DeclaredNode → AskedKind → List ℕ
+asked_kind nodes a =
+    head_text a.kind a.generation ++ flat_map (spaced_by (asked_value nodes)) (values_of a)
 
--- kind=ID/GEN and the values that were found behind a space
+-- KIND/GEN[:SEL]
+abbrev pub asked_specifier : Specifier → List ℕ
+asked_specifier s =
+    specifier_text (record { kind = s.kind; generation = Some s.generation; selector = s.selector })
+
+-- the word for an unknown critical extension
+abbrev pub strange_text : Bool → List ℕ
+strange_text true = spaced (codes "strange")
+strange_text false = []
+
+-- who asks, with which transaction id, and whether strangely
+unfoldable pub asker_text : List DeclaredNode → ℕ → ℕ → Bool → List ℕ
+asker_text nodes origin id strange =
+    spaced (number_text (number_of nodes origin)) ++ spaced (transaction_text id)
+    ++ strange_text strange
+
+-- a Store, as a decision tells it
+unfoldable pub store_text : List DeclaredNode → ℕ → ℕ → StoreAsked → List ℕ
+store_text nodes origin id q =
+    codes "store" ++ asker_text nodes origin id q.strange
+    ++ flat_map (spaced_by (asked_kind nodes)) q.kinds
+
+-- a Fetch, as a decision tells it
+unfoldable pub fetch_text : List DeclaredNode → ℕ → ℕ → FetchAsked → List ℕ
+fetch_text nodes origin id q =
+    codes "fetch" ++ asker_text nodes origin id q.strange ++ spaced (labelled (codes "max=") q.max)
+    ++ flat_map (spaced_by asked_specifier) q.specifiers
+
+-- a Join, as a decision tells it
+unfoldable pub join_text : List DeclaredNode → ℕ → ℕ → JoinAsked → List ℕ
+join_text nodes origin id q = codes "join" ++ asker_text nodes origin id q.strange
+
+-- what a peer is asked to decide
+abbrev pub request_text : List DeclaredNode → ℕ → ℕ → Asked → List ℕ
+request_text nodes origin id asked.Bad = codes "bad"
+request_text nodes origin id asked.Unsigned = codes "unsigned"
+request_text nodes origin id (asked.Store q) = store_text nodes origin id q
+request_text nodes origin id (asked.Fetch q) = fetch_text nodes origin id q
+request_text nodes origin id (asked.Join q) = join_text nodes origin id q
+
+-- kind=ID/GEN and the values that were found
+abbrev pub found_values : KindValues → List ℕ
+found_values (Known values) = flat_map (spaced_by stored_text) values
+found_values (Raw bytes) = spaced (codes "?" ++ encode_lower bytes)
+
+-- kind=ID/GEN and the values that were found
 unfoldable pub found_kind : StoreKind → List ℕ
-found_kind k = 32 ∷ [] ++ text_of fixed.Group ++ decimal k.kind ++ 47 ∷ [] ++ decimal k.generation ++ found_words k.values
+found_kind kind = head_text kind.kind kind.generation ++ found_values kind.values
+
+-- ok, or an error's code
+unfoldable pub code_text : ℕ → List ℕ
+code_text code =
+    if code == 0 then spaced (codes "ok") else spaced (codes "error") ++ spaced (decimal code)
 
 -- an answer, each word behind a space
-unfoldable pub decided_words : ℕ → List (ℕ × ℕ) → List ℕ
-decided_words code counters = code_words code ++ flat_map counter_word counters
+unfoldable pub answer_text : Answer → List ℕ
+answer_text (Decided code counters) = code_text code ++ flat_map (spaced_by counter_text) counters
+answer_text (Found kinds) = flat_map (spaced_by found_kind) kinds
+answer_text Joined = spaced (codes "joined")
 
-unfoldable pub verdict_words : FetchVerdict → List ℕ
-verdict_words (Values kinds) = flat_map found_kind kinds
-verdict_words (Refused code) = code_words code
+-- decide P T RES
+unfoldable pub place_text : ℕ → ℕ → ℕ → List ℕ
+place_text peer time resource =
+    codes "decide" ++ spaced (decimal peer) ++ spaced (decimal time) ++ spaced (id_text resource)
 
-abbrev pub answer_words : Answer → List ℕ
-answer_words (Decided code counters) = decided_words code counters
-answer_words (Found verdict) = verdict_words verdict
+-- decide P T RES REQUEST -> ANSWER
+unfoldable pub decide_line : List DeclaredNode → Decision → List ℕ
+decide_line nodes d =
+    place_text d.peer d.time d.resource ++ spaced (request_text nodes d.origin.0 d.id d.asked)
+    ++ spaced (codes "->")
+    ++ answer_text d.answer
 
--- a Store or a Fetch by a node of this number, with this transaction id
-unfoldable pub store_words : ℕ → ℕ → StoreAsked → List ℕ
-store_words origin id q = text_of fixed.Store ++ decimal origin ++ 32 ∷ [] ++ transaction_text id ++ flat_map (group_words origin) q.kinds
-
--- KIND/GEN behind a space
-unfoldable pub specifier_words : Specifier → List ℕ
-specifier_words s = 32 ∷ [] ++ decimal s.kind ++ 47 ∷ [] ++ decimal s.generation
-
-unfoldable pub fetch_words : ℕ → ℕ → FetchAsked → List ℕ
-fetch_words origin id q = text_of fixed.Fetch ++ decimal origin ++ 32 ∷ [] ++ transaction_text id ++ text_of fixed.Max ++ decimal q.max ++ flat_map specifier_words q.specifiers
-
-abbrev pub asked_words : ℕ → ℕ → Asked → List ℕ
-asked_words origin id (Store q) = store_words origin id q
-asked_words origin id (Fetch q) = fetch_words origin id q
-
--- decide PEER TIME RESOURCE and a space
-unfoldable pub place_words : ℕ → ℕ → ℕ → List ℕ
-place_words peer time resource = text_of fixed.Decide ++ decimal peer ++ 32 ∷ [] ++ decimal time ++ 32 ∷ [] ++ id_text resource ++ 32 ∷ []
-
--- decide PEER TIME RESOURCE REQUEST -> ANSWER, where the request is the client's of this number
-unfoldable pub decide_line : ℕ → Decision → List ℕ
-decide_line origin d = place_words d.peer d.time d.resource ++ asked_words origin d.id d.asked ++ text_of fixed.Arrow ++ answer_words d.answer
-
--- answer ID ANSWER
+-- answer H.L ANSWER
 unfoldable pub answer_line : ℕ → Answer → List ℕ
-answer_line id answer = text_of fixed.Answer ++ transaction_text id ++ answer_words answer
+answer_line id answer = codes "answer" ++ spaced (transaction_text id) ++ answer_text answer
 
 -- the event at a line names a request that wasn't issued
 unfoldable pub refused_line : ℕ → List ℕ
-refused_line n = text_of fixed.Refused ++ decimal n ++ text_of fixed.NoSuchFrame
+refused_line n = codes "refused" ++ spaced (decimal n) ++ spaced (codes "no-such-frame")
 
 -- the declarations, as they stand in the scenario
 unfoldable pub echo : Scenario → List ℕ
-echo s = flat_map ended (declaration_lines s)
+echo s = flat_map ended s.declarations
 
+-- end requests=Q decisions=D
 unfoldable pub end_line : ℕ → ℕ → List ℕ
-end_line requests decisions = text_of fixed.Requests ++ decimal requests ++ text_of fixed.Decisions ++ decimal decisions
+end_line requests decisions =
+    codes "end" ++ spaced (labelled (codes "requests=") requests)
+    ++ spaced (labelled (codes "decisions=") decisions)
 
+-- bad line N
 unfoldable pub bad_line : ℕ → List ℕ
-bad_line n = text_of fixed.BadLine ++ decimal n
+bad_line n = codes "bad line" ++ spaced (decimal n)

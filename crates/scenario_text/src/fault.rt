@@ -5,8 +5,8 @@ use reload_base::NoMemory;
 /// Why a text wasn't read.
 #[derive(Clone, Copy, Debug, PartialEq, Eq)]
 pub enum TextFault {
-    /// The first line that is outside the grammar, counted from 1; one more than the number of lines where
-    /// something is missing at the end.
+    /// The first line that is outside the grammar, counted from 1; one more than the number of
+    /// lines where something is missing at the end.
     BadLine(u64),
     /// Memory is missing.
     NoMemory,

@@ -1,3 +1,2 @@
-pub mod BlockLaw
 pub mod OwnSignature
 pub mod StandInExact

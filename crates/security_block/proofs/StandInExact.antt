@@ -1,47 +1,32 @@
 -- What the stand-in looks at is exact: no other bytes are a certificate, and no other signature verifies.
 use Rattle.std.proofs.Common.{◌≡◌, ℕ, ◌-◌, true, false, cond, eqb, List, [], ◌++◌, length, take, drop, Some, None, Result, Ok, Err, refl, sym, ap, subst, ◌∙◌}
-use Rattle.std.specs.Option.{option_map}
 use Rattle.std.specs.Result.{result_ok}
 use Rattle.std.specs.Str.{bytes_eq}
 use Rattle.std.proofs.lemmas.Bool.{eqb-true}
-use Rattle.std.proofs.lemmas.List.{append-nil, take-append-drop, nil_from_length}
+use Rattle.std.proofs.lemmas.List.{take-append-drop}
 use Rattle.std.proofs.lemmas.Slice.Eq.{bytes_eq-Decides}
 use Rattle.sha2.specs.Sha256.{sha256}
 use Rattle.wire_core.specs.declared.bad.Bad.{Bad}
-use Rattle.wire_core.specs.declared.bad.Reason.TheVariants.{Trailing}
 use Rattle.wire_core.specs.declared.signature.Signature.{Signature}
 use Rattle.wire_core.specs.declared.signature.SignerIdentity.{SignerIdentity}
 use Rattle.wire_core.specs.declared.signature.SignerIdentity.TheVariants as signers
-use Rattle.wire_core.specs.Part.{Part, part}
-use Rattle.wire_core.specs.Reading.{and_then, ended, done, refused, allowed}
+use Rattle.wire_core.specs.Reading.{whole_of}
+use Rattle.wire_core.proofs.Decoders.{whole_takes}
 use Rattle.wire_core.specs.Spelling.{AreBytes}
-use Rattle.wire_core.proofs.Bytes.{AreBytes-take}
+use Rattle.wire_core.specs.Laws.Bytes.{AreBytes-take}
 use Rattle.security_block.specs.declared.about.About.{About}
 use Rattle.security_block.specs.Signers.{IsNamed}
 use Rattle.security_block.specs.StandIn.{claim, tag_of, certificate_for, claim_at, claimed, about_by, identity_by, value_by, signature_by, identifies, is_signature_by}
-use Rattle.security_block.specs.StandInLaw.{both, IsClaim, claim_laid, is_signature_by-own}
+use Rattle.security_block.specs.Laws.Claims.{both, IsClaim, claim_laid}
+use Rattle.security_block.specs.Laws.StandIn.{is_signature_by-own}
 
--- It was read up to the end of the part.
-abbrev FillsPart : Result (About × Part) Bad → About → Type 0
-FillsPart r who = (m : Part) × (r ≡ Ok (who, m)) × (m.bytes ≡ [])
-
--- what fills a part
-whole : (r : Result (About × Part) Bad) (p : Part) (who : About) → option_map (λ x. x.0) (result_ok (and_then r (λ x left. and_then (ended left) (λ _ _. done x p)))) ≡ Some who → FillsPart r who
-unfolding allowed
-whole (Err bad) p who e = absurd cc
-whole (Ok x) p who e =
-    elim (eqb (length x.1.bytes) 0) as (λ b. eqb (length x.1.bytes) 0 ≡ b
-    → option_map (λ y. y.0) (result_ok (and_then (cond b (done tt) (refused x.1.place Trailing) x.1) (λ _ _. done x.0 p))) ≡ Some who → FillsPart (Ok x) who) [
-      | true ↦ λ empty f. let same : x.0 ≡ who = cc in (x.1, ap (λ (w : About). Ok (w, x.1)) same, nil_from_length x.1.bytes (eqb-true _ _ empty))
-      | false ↦ λ some f. absurd cc
-    ] refl e
+ok_of : (r : Result About Bad) (who : About) → result_ok r ≡ Some who → r ≡ Ok who
+ok_of (Ok x) who e = let same : x ≡ who = cc in ap (λ (w : About). Ok w) same
+ok_of (Err bad) who e = absurd cc
 
 claimed-is : (said : List ℕ) (who : About) → AreBytes said → claimed said ≡ Some who → IsClaim who × (said ≡ claim who)
 unfolding claimed
-claimed-is said who bytes e =
-    let w = whole (claim_at (part 0 said)) (part 0 said) who e in
-    let t = claim_laid.takes (part 0 said) who w.0 bytes w.1 in
-    (t.1, t.2.bytes ∙ ap (λ (r : List ℕ). claim who ++ r) w.2 ∙ append-nil (claim who))
+claimed-is said who bytes e = whole_takes claim_laid said who bytes (ok_of (whole_of claim_at said) who e)
 
 -- the certificate of the one whom it is about
 pub about_by-is : (certificate : List ℕ) (who : About) → AreBytes certificate → about_by certificate ≡ Some who → IsNamed who × (certificate ≡ certificate_for who)

@@ -1,7 +1,7 @@
 -- Certificates and security blocks: their spelling, and how they are read (RFC 6940, 6.3.4).
-use Rattle.std.specs.Prelude.{ℕ, ◌<◌, ◌^◌, List, ◌++◌, length, All}
+use Rattle.std.specs.Prelude.{ℕ, ◌<◌, ◌^◌, List, [], ◌∷◌, length, All}
 use Rattle.std.specs.List.{flat_map}
-use Rattle.wire_core.specs.Spelling.{AreBytes, number, vector}
+use Rattle.wire_core.specs.Spelling.{AreBytes, number, vector, joined}
 use Rattle.wire_core.specs.Reading.{Reader, ◌>>=◌, done, rest_at, number_at, vector_at, list_at}
 use Rattle.wire_core.specs.Signature.{signature, signature_at, IsSpelledSignature, IsSignatureInRange}
 use Rattle.security_block.specs.declared.certificate.Certificate.{Certificate}
@@ -9,7 +9,7 @@ use Rattle.security_block.specs.declared.block.SecurityBlock.{SecurityBlock}
 
 -- a certificate's bytes
 unfoldable pub certificate : Certificate → List ℕ
-certificate c = number 1 c.code ++ vector 2 c.body
+certificate c = joined (number 1 c.code ∷ vector 2 c.body ∷ [])
 
 -- the bytes of a list of certificates
 abbrev pub certificates : List Certificate → List ℕ
@@ -17,7 +17,7 @@ certificates cs = flat_map certificate cs
 
 -- a security block's bytes
 unfoldable pub block : SecurityBlock → List ℕ
-block b = vector 2 (certificates b.certificates) ++ signature b.signature
+block b = joined (vector 2 (certificates b.certificates) ∷ signature b.signature ∷ [])
 
 -- A certificate's body has at most 65,535 bytes.
 abbrev pub IsSpelledCertificate : Certificate → Type 0

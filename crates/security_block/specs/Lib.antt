@@ -1,5 +1,5 @@
 pub mod Block
 pub mod Claims
+pub mod Laws
 pub mod Signers
 pub mod StandIn
-pub mod StandInLaw

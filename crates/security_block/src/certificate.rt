@@ -1,12 +1,14 @@
 //! Certificates as a message holds them.
 
-ghost use Rattle.security_block.specs.Block.{certificate, certificate_at, IsSpelledCertificate};
+ghost use Rattle.security_block.specs.Block.{certificate, certificate_at, IsSpelledCertificate, IsCertificateInRange};
+ghost use Rattle.security_block.specs.Laws.Blocks.{certificate_laid, certificate-some};
 
 use reload_base::{Bytes, NoMemory, TryCopy};
 use std::alloc::Global;
-use wire_core::{Cursor, DecodeFault, Layout, put_bytes, put_u8, take_bytes};
+use wire_core::{Cursor, DecodeFault, Layout, Spell, put_bytes, put_u8, take_bytes};
 
-/// A certificate (RFC 6940, section 6.3.4). What its bytes say depends on its code, and is left to a signer.
+/// A certificate (RFC 6940, section 6.3.4). What its bytes say depends on its code, and is left to
+/// a signer.
 #[derive(Debug, Drop)]
 pub struct Certificate {
     /// The number of its type.
@@ -24,10 +26,31 @@ impl TryCopy for Certificate {
     }
 }
 
-impl Layout for Certificate {
+impl Spell for Certificate {
     ghost spelling = { certificate };
 
     ghost is_spelled = { IsSpelledCertificate };
+
+    fn fits(&self) -> bool {
+        self.body.len() < 0x1_0000
+    }
+
+    #[tactic(auto, using(wire_core::proofs::Puts::lengths), unfolding(crate::specs::Block::certificate))]
+    fn len(&self) -> u64 {
+        (self.body.len() as u64).saturating_add(3)
+    }
+
+    #[tactic(auto, using(wire_core::proofs::Puts::fronts), unfolding(crate::specs::Block::certificate))]
+    fn put(&self, out: &mut Bytes) -> Result<(), NoMemory> {
+        put_u8(out, self.code)?;
+        put_bytes(out, 2, self.body.as_slice())
+    }
+
+    ghost has_a_byte = { λ c _. certificate-some c };
+}
+
+impl Layout for Certificate {
+    ghost in_range = { IsCertificateInRange };
 
     ghost reading = { certificate_at };
 
@@ -38,18 +61,5 @@ impl Layout for Certificate {
         Ok(Certificate { code, body })
     }
 
-    fn fits(&self) -> bool {
-        self.body.len() < 0x1_0000
-    }
-
-    #[tactic(auto, using(wire_core::proofs::Bytes::lengths), unfolding(crate::specs::Block::certificate))]
-    fn len(&self) -> u64 {
-        (self.body.len() as u64).saturating_add(3)
-    }
-
-    #[tactic(auto, unfolding(crate::specs::Block::certificate))]
-    fn put(&self, out: &mut Bytes) -> Result<(), NoMemory> {
-        put_u8(out, self.code)?;
-        put_bytes(out, 2, self.body.as_slice())
-    }
+    ghost is_layout = { certificate_laid };
 }

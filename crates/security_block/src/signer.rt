@@ -13,7 +13,7 @@ use std::alloc::Global;
 use wire_core::Signature;
 
 /// The type of certificates by which nodes of this profile sign, from the range for private use.
-const SIGNING: u8 = 224;
+pub const SIGNING: u8 = 224;
 
 /// Makes certificates and signatures, and looks at those that others made.
 pub trait Signer {
@@ -29,7 +29,7 @@ pub trait Signer {
     /// Whether a signature of a certificate over bytes verifies.
     ghost verifies: { Self → List ℕ → List ℕ → Signature → Bool };
 
-    /// A certificate for a node whose user has a name of 1 to 64 bytes.
+    /// A certificate for a node whose user has a name of 1 to `MAX_USER` bytes.
     fn certificate(&self, alloc: Global, who: &About) -> Result<Bytes, NoMemory>
         requires { IsNamed who.now }
         ensures { IfOk result (λ certificate. certificate ≡ certificate_of self.now who.now) };
@@ -42,16 +42,20 @@ pub trait Signer {
     fn about(&self, alloc: Global, certificate: &[u8]) -> Result<Option<About>, NoMemory>
         ensures { IfOk result (λ who. who ≡ about_of self.now certificate.now) };
 
-    /// Whether a signature is one of a certificate over bytes, and behind them the spelling of its identity.
+    /// Whether a signature is one of a certificate over bytes, and behind them the spelling of its
+    /// identity.
     fn verify(&self, certificate: &[u8], bytes: &[u8], s: &Signature) -> bool
         ensures { result ≡ verifies self.now certificate.now bytes.now s.now };
 
     /// A certificate that was made for someone is about that one.
-    ghost is_about: { (g : Self) (who : About) → IsNamed who → who.node.0 < 2 ^ 128 → about_of g (certificate_of g who) ≡ Some who };
+    ghost is_about: { (g : Self) (who : About) → IsNamed who → who.node.0 < 2 ^ 128
+        → about_of g (certificate_of g who) ≡ Some who };
 
     /// What is signed with such a certificate verifies with it over the same bytes.
-    ghost own_verifies: { (g : Self) (who : About) (bytes : List ℕ) → IsNamed who → who.node.0 < 2 ^ 128
-        → verifies g (certificate_of g who) bytes (signature_of g (certificate_of g who) bytes) ≡ true };
+    ghost own_verifies: { (g : Self) (who : About) (bytes : List ℕ) → IsNamed who
+        → who.node.0 < 2 ^ 128
+        → verifies g (certificate_of g who) bytes (signature_of g (certificate_of g who) bytes)
+        ≡ true };
 }
 
 #[tactic(auto, unfolding(crate::specs::Signers::first_verifying))]
@@ -61,14 +65,15 @@ fn verifying<'a, G: Signer>(
     bytes: &[u8],
     s: &Signature,
 ) -> Option<&'a Certificate>
-    ensures { option_copied result ≡ first_verifying (λ c. G.verifies g.now c bytes.now s.now) certificates.now }
+    ensures { option_copied result ≡ first_verifying (λ c. G.verifies g.now c bytes.now s.now)
+        certificates.now }
 {
     certificates.as_slice().iter().find(|c| c.code == SIGNING
         && g.verify(c.body.as_slice(), bytes, s))
 }
 
-/// Whom the first certificate of code 224 is about with which a signature over bytes verifies. Other codes are
-/// passed over.
+/// Whom the first certificate of code `SIGNING` is about with which a signature over bytes
+/// verifies. Other codes are passed over.
 #[tactic(auto, unfolding(crate::specs::Signers::signer_among))]
 pub fn signer_of<G: Signer>(
     alloc: Global,
@@ -77,7 +82,8 @@ pub fn signer_of<G: Signer>(
     bytes: &[u8],
     s: &Signature,
 ) -> Result<Option<About>, NoMemory>
-    ensures { IfOk result (λ who. who ≡ signer_among (λ c. G.verifies g.now c bytes.now s.now) (G.about_of g.now) certificates.now) }
+    ensures { IfOk result (λ who. who ≡ signer_among (λ c. G.verifies g.now c bytes.now s.now)
+        (G.about_of g.now) certificates.now) }
 {
     match verifying(g, certificates, bytes, s) {
         Some(certificate) => g.about(alloc, certificate.body.as_slice()),
@@ -85,9 +91,10 @@ pub fn signer_of<G: Signer>(
     }
 }
 
-/// What a node signed verifies as that node's, wherever its certificate stands alone: `signer_of` then answers the
-/// node, or `NoMemory`.
+/// What a node signed verifies as that node's, wherever its certificate stands alone: `signer_of`
+/// then answers the node, or `NoMemory`.
 pub fn verifies_as_own<G: Signer>()
     ensures { (g : G) (who : About) (bytes : List ℕ) → IsNamed who → who.node.0 < 2 ^ 128
-        → signer_among (λ c. G.verifies g c bytes (G.signature_of g (G.certificate_of g who) bytes)) (G.about_of g) (alone (G.certificate_of g who)) ≡ Some who }
+        → signer_among (λ c. G.verifies g c bytes (G.signature_of g (G.certificate_of g who) bytes))
+        (G.about_of g) (alone (G.certificate_of g who)) ≡ Some who }
 {}

@@ -6,32 +6,32 @@ ghost use Rattle.sha2.specs.Sha256.{sha256};
 ghost use Rattle.wire_core.specs.Reading.{Reads};
 ghost use Rattle.security_block.specs.Signers.{IsNamed};
 ghost use Rattle.security_block.specs.Claims.{who_claims};
-ghost use Rattle.security_block.specs.StandIn.{authority_text, key_text, claim, tag_of, certificate_for, role_at, user_at, claim_at, claimed, about_by, value_by, signature_by, identifies, is_signature_by, verifies_by};
+ghost use Rattle.security_block.specs.StandIn.{authority_text, key_text, role, claim, tag_of, certificate_for, role_of, role_at, user_at, claim_at, claimed, about_by, value_by, signature_by, identifies, is_signature_by, verifies_by};
 
-use crate::about::About;
+use crate::about::{About, MAX_USER};
 use crate::signer::Signer;
 use reload_base::{Bytes, NoMemory};
 use reload_ids::NodeId;
 use sha2::{Digest, Sha256};
 use std::alloc::Global;
 use wire_core::{
-    Bad, Cursor, Reason, Signature, SignerIdentity, allowed, put_bytes, put_u8, put_u128,
+    Bad, Cursor, Reason, Signature, SignerIdentity, Spell, allowed, given, put_bytes, put_u8,
 };
 
 /// The version of a stand-in certificate.
-const VERSION: u8 = 1;
+pub const VERSION: u8 = 1;
 
 /// The number of SHA-256 among hash algorithms (RFC 5246, section 7.4.1.4.1).
-const SHA_256: u8 = 4;
+pub const SHA_256: u8 = 4;
 
 /// The number of stand-in signatures, from the range for private use.
-const STAND_IN: u8 = 224;
+pub const STAND_IN: u8 = 224;
 
 /// The bytes of a tag.
-const TAG: usize = 32;
+pub const TAG: usize = 32;
 
-/// Signs in anyone's name, by hashes alone. It isn't secure: whoever knows its two texts can forge. A certificate
-/// for a user of u bytes has 51 + u bytes, and a signature 73.
+/// Signs in anyone's name, by hashes alone. It isn't secure: whoever knows its two texts can forge.
+/// A certificate for a user of u bytes has 51 + u bytes, and a signature 73.
 #[derive(Clone, Copy, Debug)]
 pub struct StandIn;
 
@@ -68,6 +68,26 @@ fn tag(said: &[u8]) -> [u8; 32]
     hasher.finalize()
 }
 
+/// The number of a role.
+#[tactic(auto, unfolding(crate::specs::StandIn::role))]
+fn role(peer: bool) -> u8
+    ensures { result ≡ role peer }
+{
+    if peer { 1 } else { 2 }
+}
+
+/// Whether a role's number is that of a peer, if it is one.
+#[tactic(auto, unfolding(crate::specs::StandIn::role_of))]
+fn role_of(number: u8) -> Option<bool>
+    ensures { result ≡ role_of number }
+{
+    match number {
+        1 => Some(true),
+        2 => Some(false),
+        _ => None,
+    }
+}
+
 /// Adds what a certificate says. After `NoMemory` the bytes may have a front of it.
 #[tactic(auto, unfolding(crate::specs::StandIn::claim))]
 fn put_claim(out: &mut Bytes, who: &About) -> Result<(), NoMemory>
@@ -75,37 +95,42 @@ fn put_claim(out: &mut Bytes, who: &About) -> Result<(), NoMemory>
     ensures { OnOk result (out.new ≡ out.old ++ claim who.now) }
 {
     put_u8(out, VERSION)?;
-    put_u8(out, if who.peer { 1 } else { 2 })?;
-    put_u128(out, who.node.0)?;
+    put_u8(out, role(who.peer))?;
+    who.node.put(out)?;
     put_bytes(out, 1, who.user.as_slice())
 }
 
 /// Whether the role is that of a peer.
-#[tactic(auto, unfolding(crate::specs::StandIn::role_at))]
+#[tactic(auto, unfolding(crate::specs::StandIn::role_at, wire_core::specs::Reading::code_at))]
 fn take_role(from: &mut Cursor<'_>) -> Result<bool, Bad>
     ensures { Reads result from.new (role_at from.old) }
 {
     let place = from.place();
-    let role = from.take_u8()?;
-    allowed(role == 1 || role == 2, place, Reason::BadValue)?;
-    Ok(role == 1)
+    let number = from.take_u8()?;
+    given(role_of(number), place, Reason::BadValue)
 }
 
-/// A user's name of 1 to 64 bytes.
+/// A user's name of 1 to `MAX_USER` bytes.
 #[tactic(auto, unfolding(crate::specs::StandIn::user_at, wire_core::specs::Reading::vector_at, wire_core::specs::Reading::allowed))]
 fn take_user<'a>(from: &mut Cursor<'a>) -> Result<&'a [u8], Bad>
-    ensures { MatchResult result (λ user. user_at from.old ≡ Ok (user.now, from.new)) (λ bad. user_at from.old ≡ Err bad) }
+    ensures { MatchResult result (λ user. user_at from.old ≡ Ok (user.now, from.new))
+        (λ bad. user_at from.old ≡ Err bad) }
 {
     let place = from.place();
     let mut part = from.take_part(1)?;
     let user = part.rest();
-    allowed(1 <= user.len() && user.len() <= 64, place, Reason::BadValue)?;
+    allowed(
+        1 <= user.len() && user.len() <= MAX_USER,
+        place,
+        Reason::BadValue,
+    )?;
     Ok(user)
 }
 
-#[tactic(auto, unfolding(crate::specs::StandIn::claim_at))]
+#[tactic(auto, unfolding(crate::specs::StandIn::claim_at, wire_core::specs::Ids::node_id_at))]
 fn take_claim<'a>(from: &mut Cursor<'a>) -> Result<Claim<'a>, Bad>
-    ensures { MatchResult result (λ c. claim_at from.old ≡ Ok (who_claims c, from.new)) (λ bad. claim_at from.old ≡ Err bad) }
+    ensures { MatchResult result (λ c. claim_at from.old ≡ Ok (who_claims c, from.new))
+        (λ bad. claim_at from.old ≡ Err bad) }
 {
     from.expect(1, u32::from(VERSION))?;
     let peer = take_role(from)?;
@@ -195,7 +220,7 @@ impl Signer for StandIn {
 
     ghost verifies = { λ _ certificate bytes s. verifies_by certificate bytes s };
 
-    ghost use Rattle.security_block.specs.StandInLaw.{about_by-certificate_for, verifies_by-own};
+    ghost use Rattle.security_block.specs.Laws.StandIn.{about_by-certificate_for, verifies_by-own};
 
     ghost is_about = { λ _ who named node. about_by-certificate_for who named node };
 
@@ -228,7 +253,8 @@ impl Signer for StandIn {
     fn about(&self, alloc: Global, certificate: &[u8]) -> Result<Option<About>, NoMemory>
         ensures value { IfOk result (λ who. who ≡ about_by certificate.now) }
         // It is about no other than the one whose certificate these bytes are.
-        ensures found { IfOk result (λ found. IfSome found (λ who. IsNamed who × (certificate.now ≡ certificate_for who))) }
+        ensures found { IfOk result
+            (λ found. IfSome found (λ who. IsNamed who × (certificate.now ≡ certificate_for who))) }
     {
         let Some(claim) = claim_of(certificate) else {
             return Ok(None);
@@ -244,7 +270,8 @@ impl Signer for StandIn {
     #[tactic(auto, unfolding(crate::specs::StandIn::verifies_by))]
     fn verify(&self, certificate: &[u8], bytes: &[u8], s: &Signature) -> bool
         ensures value { result ≡ verifies_by certificate.now bytes.now s.now }
-        ensures exact { IsTrue result ↔ (IsSome (about_by certificate.now) × (s.now ≡ signature_by certificate.now bytes.now)) }
+        ensures exact { IsTrue result ↔
+            (IsSome (about_by certificate.now) × (s.now ≡ signature_by certificate.now bytes.now)) }
     {
         claim_of(certificate).is_some() && is_signature(certificate, bytes, s)
     }

@@ -9,7 +9,7 @@ use reload_ids::NodeId;
 use sha2::{Digest, Sha256};
 use std::alloc::Global;
 use std::test::Fail;
-use wire_core::{Bad, Cursor, DecodeFault, Layout, Reason, Signature, SignerIdentity};
+use wire_core::{Bad, Cursor, DecodeFault, Layout, Reason, Signature, SignerIdentity, Spell};
 
 /// What the certificate of the peer 000102..0f and its user `abc` says.
 fn said() -> &'static [u8] {
@@ -30,9 +30,10 @@ fn certificate() -> &'static [u8] {
     ]
 }
 
-/// Its signature over `hello`. In Python, with `certificate` as above,
-/// `identity = bytes([1, 0, 34, 4, 32]) + hashlib.sha256(certificate).digest()` (ed0097a4..6540b), and the value is
-/// `hashlib.sha256(b'RELOAD stand-in key' + certificate + b'hello' + identity).digest()` (f6266a01..438be).
+/// Its signature over `hello`. In Python, with `certificate` as above, `identity = bytes([1, 0, 34,
+/// 4, 32]) + hashlib.sha256(certificate).digest()` (ed0097a4..6540b), and the value is
+/// `hashlib.sha256(b'RELOAD stand-in key' + certificate + b'hello' + identity).digest()`
+/// (f6266a01..438be).
 fn signature() -> &'static [u8] {
     &[
         0x04, 0xe0, 0x01, 0x00, 0x22, 0x04, 0x20, 0xed, 0x00, 0x97, 0xa4, 0x56, 0xd6, 0xfb, 0xe0,
@@ -66,7 +67,8 @@ fn block(alloc: Global) -> Result<SecurityBlock, NoMemory> {
     })
 }
 
-/// The bytes of that block: 57 bytes of certificates, of which the one is 224 and 54 bytes long, and the signature.
+/// The bytes of that block: 57 bytes of certificates, of which the one is 224 and 54 bytes long,
+/// and the signature.
 fn block_bytes(alloc: Global) -> Result<Bytes, NoMemory> {
     let mut bytes = Bytes::from_slice(alloc, &[0, 57, 224, 0, 54])?;
     bytes.extend(certificate())?;
@@ -231,7 +233,7 @@ struct Credulous;
 impl Signer for Credulous {
     ghost use Rattle.std.specs.Prelude.{true, refl};
     ghost use Rattle.security_block.specs.StandIn.{certificate_for, about_by, signature_by};
-    ghost use Rattle.security_block.specs.StandInLaw.{about_by-certificate_for};
+    ghost use Rattle.security_block.specs.Laws.StandIn.{about_by-certificate_for};
 
     ghost certificate_of = { λ _ who. certificate_for who };
 

@@ -1,102 +1,198 @@
 -- Decisions taken in order: legal over one map, and each Store acting at most once.
-use Rattle.std.specs.Prelude.{◌≡◌, ◌≢◌, ℕ, ◌<◌, ◌≤◌, ◌==◌, List, [], ◌∷◌, ◌++◌, length, Bool, false, Option, None, if◌then◌else◌}
+use Rattle.std.specs.Prelude.{◌≡◌, ℕ, ◌+◌, ◌<◌, ◌==◌, ◌&&◌, List, [], ◌∷◌, ◌++◌, map, filter, Bool, true, false, Option, Some, None, if◌then◌else◌}
 use Rattle.std.specs.List.{flat_map, AllByRecursion}
-use Rattle.std.specs.Ordering.{nat_cmp, is_eq}
-use Rattle.std.specs.Cmp.Lexicographic.{slice_cmp}
-use Rattle.std.specs.FinMap.{empty}
+use Rattle.std.specs.FinMap.{empty, insert}
+use Rattle.reload_ids.specs.declared.NodeId.{NodeId}
 use Rattle.data_models.specs.declared.config.Config.{Config}
-use Rattle.data_models.specs.Stored.{key_of}
+use Rattle.data_models.specs.declared.fetched.StoreKind.{StoreKind}
+use Rattle.storage_model.specs.declared.record.Held.{Held}
 use Rattle.storage_model.specs.declared.request.AskedKind.{AskedKind}
+use Rattle.storage_model.specs.declared.request.JoinAsked.{JoinAsked}
 use Rattle.storage_model.specs.declared.request.Asked.{Asked}
-use Rattle.storage_model.specs.declared.request.Asked.TheVariants.{Store, Fetch}
-use Rattle.storage_model.specs.declared.record.Record.{Record}
+use Rattle.storage_model.specs.declared.request.Asked.TheVariants.{Bad, Unsigned, Store, Fetch, Join}
+use Rattle.storage_model.specs.declared.refusal.Refusal.{Refusal}
+use Rattle.storage_model.specs.declared.refusal.Refusal.TheVariants.{InvalidMessage, Forbidden, UnknownExtension}
 use Rattle.storage_model.specs.declared.verdict.FetchVerdict.{FetchVerdict}
+use Rattle.storage_model.specs.declared.verdict.FetchVerdict.TheVariants.{Values, Refused}
+use Rattle.storage_model.specs.Records.{Kinds, Record, Map, record_in, kind_in, next_index}
+use Rattle.storage_model.specs.Refusals.{Cause, error_code, first_cause, sequence_causes}
+use Rattle.storage_model.specs.Requests.{values_of, placed, appended, groups_of, is_same_key}
+use Rattle.storage_model.specs.Puts.{ValuesAt, held_of, at_keys, at_end, put_all}
+use Rattle.storage_model.specs.Verdict.{Outcome, outcome_of}
 use Rattle.storage_model.specs.Fetches.{fetch_verdict}
-use Rattle.storage_model.specs.Records.{Map, record_in}
-use Rattle.storage_model.specs.Verdict.{Outcome, outcome_of, changed, values_of}
 
--- the answer of a decision: to a Store a code, 0 for ok, with generation counters; to a Fetch its values or a code
+-- the answer of a decision: a code, 0 for ok, with generation counters; the values of a Fetch; or
+-- that a joiner is admitted
 pub data Answer : Type 0 where
   Decided : (code : ℕ) (counters : List (ℕ × ℕ)) → Answer
-  Found : (verdict : FetchVerdict) → Answer
+  Found : (kinds : List StoreKind) → Answer
+  Joined : Answer
 
--- a decision: which peer, at which clock in ms, on which resource, on which request with which transaction id, with what answer
+-- a decision: which peer, at which clock in ms, under which configuration, on which resource, for
+-- which origin and transaction id, on what, with what answer
 pub record Decision : Type 0 where
   pub peer : ℕ
   pub time : ℕ
+  pub config : Config
   pub resource : ℕ
+  pub origin : NodeId
   pub id : ℕ
   pub asked : Asked
   pub answer : Answer
 
--- what is made of a request: the answer, whether a value is put, and the record afterwards, none where it stays
+-- what is made of a request: the answer, whether a value is put, and the record afterwards, none
+-- where it stays
 pub record Effect : Type 0 where
   pub answer : Answer
   pub acted : Bool
   pub next : Option Record
 
+-- an answer that leaves the record as it is
+abbrev pub only : Answer → Effect
+only answer = record { answer = answer; acted = false; next = None }
+
+abbrev pub refusal : Refusal → Effect
+refusal cause = only (Decided (error_code cause) [])
+
 abbrev pub stored : Outcome → Effect
-stored out = record { answer = Decided out.verdict.code out.verdict.counters; acted = out.verdict.acted; next = out.next }
+stored out = record {
+  answer = Decided out.verdict.code out.verdict.counters;
+  acted = out.verdict.acted;
+  next = out.next;
+}
+
+abbrev pub found : FetchVerdict → Effect
+found (Values kinds) = only (Found kinds)
+found (Refused cause) = refusal cause
+
+-- a record once a peer joined with its resource as Node-ID: the first time, its turn rises by 1
+unfoldable pub with_joined : Record → Option Record
+with_joined x = if x.joined then None else Some (record x { turn = x.turn + 1; joined = true })
+
+-- why a Join is refused, in this order
+unfoldable pub join_causes : Config → JoinAsked → List Cause
+join_causes config request =
+    sequence_causes config request.sequence ++ (UnknownExtension, request.strange) ∷ []
+
+abbrev pub joined : Option Refusal → Record → Effect
+joined (Some cause) x = refusal cause
+joined None x = record { answer = Joined; acted = false; next = with_joined x }
 
 -- what is made of a request for a resource with this record
-abbrev pub effect_of : Config → ℕ → ℕ → Record → Asked → Effect
-effect_of config now resource x (Store q) = stored (outcome_of config now resource x q)
-effect_of config now resource x (Fetch q) = record { answer = Found (fetch_verdict config now x.kinds q); acted = false; next = None }
+abbrev pub effect_of : Config → ℕ → ℕ → Record → NodeId → ℕ → Asked → Effect
+effect_of config now resource x origin id Bad = refusal InvalidMessage
+effect_of config now resource x origin id Unsigned = refusal Forbidden
+effect_of config now resource x origin id (Store q) =
+    stored (outcome_of config now resource x origin id q)
+effect_of config now resource x origin id (Fetch q) = found (fetch_verdict config now x.kinds q)
+effect_of config now resource x origin id (Join q) = joined (first_cause (join_causes config q)) x
 
 -- what the one map makes of a decision's request
-abbrev pub effect_on : Config → Map → Decision → Effect
-effect_on config m d = effect_of config d.time d.resource (record_in m d.resource) d.asked
+abbrev pub effect_on : Map → Decision → Effect
+effect_on m d = effect_of d.config d.time d.resource (record_in m d.resource) d.origin d.id d.asked
+
+-- a map after the record of a resource changed, or stayed
+abbrev pub changed : Map → ℕ → Option Record → Map
+changed m resource None = m
+changed m resource (Some next) = insert m resource next
 
 -- the one map after a decision
-abbrev pub map_after : Config → Map → Decision → Map
-map_after config m d = changed m d.resource (effect_on config m d).next
+abbrev pub map_after : Map → Decision → Map
+map_after m d = changed m d.resource (effect_on m d).next
 
 -- each answer is that of the one map as the decisions before it left it
-unfoldable pub IsLegalFrom : Config → Map → List Decision → Type 0
-IsLegalFrom config m [] = Unit {0}
-IsLegalFrom config m (d ∷ ds) = (d.answer ≡ (effect_on config m d).answer) × IsLegalFrom config (map_after config m d) ds
+unfoldable pub IsLegalFrom : Map → List Decision → Type 0
+IsLegalFrom m [] = Unit {0}
+IsLegalFrom m (d ∷ ds) = (d.answer ≡ (effect_on m d).answer) × IsLegalFrom (map_after m d) ds
 
 -- decisions are legal where this holds from the map in which nobody wrote anything
-abbrev pub IsLegal : Config → List Decision → Type 0
-IsLegal config ds = IsLegalFrom config empty ds
+abbrev pub IsLegal : List Decision → Type 0
+IsLegal ds = IsLegalFrom empty ds
 
 -- the decisions that put a value
-unfoldable pub acting_from : Config → Map → List Decision → List Decision
-acting_from config m [] = []
-acting_from config m (d ∷ ds) = (if (effect_on config m d).acted then d ∷ [] else []) ++ acting_from config (map_after config m d) ds
+unfoldable pub acting_from : Map → List Decision → List Decision
+acting_from m [] = []
+acting_from m (d ∷ ds) =
+    (if (effect_on m d).acted then d ∷ [] else []) ++ acting_from (map_after m d) ds
 
--- the storage times that a Store gives for one slot
-unfoldable pub times_for : ℕ → List ℕ → List AskedKind → List ℕ
-times_for kind key asked = flat_map (λ a. if a.kind == kind then flat_map (λ v. if is_eq (slice_cmp nat_cmp (key_of v.stored.key) key) then v.stored.storage_time ∷ [] else []) (values_of a) else []) asked
-
--- the kinds that a request names to put values, none where it is a Fetch
+-- the kinds that a request names to put values, none where it is no Store
 abbrev pub kinds_of : Asked → List AskedKind
 kinds_of (Store q) = q.kinds
-kinds_of (Fetch q) = []
+kinds_of _ = []
 
--- the storage times that decisions give for one slot of a resource, in order
-unfoldable pub times_in : ℕ → ℕ → List ℕ → List Decision → List ℕ
-times_in resource kind key ds = flat_map (λ d. if d.resource == resource then times_for kind key (kinds_of d.asked) else []) ds
+-- a value that is put: in which slot of which kind and resource, by an append or not, and what the
+-- slot then holds
+pub record Put : Type 0 where
+  pub resource : ℕ
+  pub kind : ℕ
+  pub key : List ℕ
+  pub appended : Bool
+  pub held : Held
+
+abbrev pub puts_at : Decision → ℕ → Bool → ValuesAt → List Put
+puts_at d kind appended values =
+    map (λ v. record {
+      resource = d.resource;
+      kind = kind;
+      key = v.0;
+      appended = appended;
+      held = held_of d.time v.1;
+    }) values
+
+-- what a decision that acts puts of one kind, in order
+unfoldable pub kind_puts : Kinds → Decision → AskedKind → List Put
+kind_puts kinds d a =
+    let slots = (kind_in kinds a.kind).slots in
+    let first = at_keys (placed (values_of a)) in
+    let next = next_index (put_all d.time slots first) in
+    puts_at d a.kind false first ++ puts_at d a.kind true (at_end next (appended (values_of a)))
+
+-- what a decision puts, nothing unless it acts
+unfoldable pub puts_of : Map → Decision → List Put
+puts_of m d =
+    if (effect_on m d).acted
+    then flat_map (kind_puts (record_in m d.resource).kinds d) (kinds_of d.asked)
+    else []
+
+-- what decisions put, in order
+unfoldable pub puts_from : Map → List Decision → List Put
+puts_from m [] = []
+puts_from m (d ∷ ds) = puts_of m d ++ puts_from (map_after m d) ds
+
+-- what was put in one slot, and what was appended to one array
+unfoldable pub puts_in : ℕ → ℕ → List ℕ → List Put → List Put
+puts_in resource kind key puts =
+    filter (λ p. (p.resource == resource) && (p.kind == kind) && is_same_key key p.key) puts
+
+unfoldable pub appends_to : ℕ → ℕ → List Put → List Put
+appends_to resource kind puts =
+    filter (λ p. (p.resource == resource) && (p.kind == kind) && p.appended) puts
+
+abbrev pub times_of : List Put → List ℕ
+times_of puts = map (λ p. p.held.storage_time) puts
 
 -- numbers that rise strictly
 unfoldable pub Rises : List ℕ → Type 0
 Rises [] = Unit {0}
 Rises (n ∷ ns) = AllByRecursion (λ m. n < m) ns × Rises ns
 
--- no decision is the same Store as a later one: the same resource, origin, transaction id and groups
+-- two decisions are on the same Store: the same resource, origin, transaction id and groups
+pub record IsSameStore (d e : Decision) : Type 0 where
+  pub resource : e.resource ≡ d.resource
+  pub origin : e.origin ≡ d.origin
+  pub id : e.id ≡ d.id
+  pub groups : groups_of (kinds_of e.asked) ≡ groups_of (kinds_of d.asked)
+
+-- no decision is on the same Store as a later one
 unfoldable pub NoneTwice : List Decision → Type 0
 NoneTwice [] = Unit {0}
-NoneTwice (d ∷ ds) = AllByRecursion (λ e. (e.resource ≡ d.resource) × (e.asked ≡ d.asked) → ⊥) ds × NoneTwice ds
+NoneTwice (d ∷ ds) = AllByRecursion (λ e. IsSameStore d e → ⊥) ds × NoneTwice ds
 
--- each Store acts at most once, and the storage times accepted in one slot rise strictly
-pub record IsOnce (config : Config) (ds : List Decision) : Type 0 where
-  pub stores : NoneTwice (acting_from config empty ds)
-  pub times : (resource kind : ℕ) (key : List ℕ) → Rises (times_in resource kind key (acting_from config empty ds))
-
--- a Store names no kind twice, and one value of a single kind
-unfoldable pub IsSoundKinds : List AskedKind → Type 0
-IsSoundKinds [] = Unit {0}
-IsSoundKinds (a ∷ asked) = (length (values_of a) ≤ 1) × AllByRecursion (λ b. b.kind ≢ a.kind) asked × IsSoundKinds asked
-
-abbrev pub AreSound : List Decision → Type 0
-AreSound ds = AllByRecursion (λ d. IsSoundKinds (kinds_of d.asked)) ds
+-- each Store acts at most once, and the storage times accepted in one slot rise strictly, as do
+-- those appended to one array
+pub record IsOnce (ds : List Decision) : Type 0 where
+  pub stores : NoneTwice (acting_from empty ds)
+  pub slots : (resource kind : ℕ) (key : List ℕ)
+      → Rises (times_of (puts_in resource kind key (puts_from empty ds)))
+  pub arrays : (resource kind : ℕ)
+      → Rises (times_of (appends_to resource kind (puts_from empty ds)))

@@ -2,14 +2,19 @@
 #![tactic(auto)]
 
 mod laws;
+mod limits;
 mod record;
+mod refusal;
 mod request;
 mod verdict;
 
 pub use laws::{
-    acting_stores_are_newer, decisions_bound_counters, fetches_give_the_last_put,
-    floors_never_fall, repeats_get_their_answer, stores_act_once,
+    decisions_bound_counters, fetches_give_the_last_put, floors_never_fall,
+    only_what_is_permitted_is_held, records_keep_their_weight, repeats_get_their_answer,
+    stores_act_once,
 };
-pub use record::{Held, Kept, KindRecord, Record, Slot};
-pub use request::{Asked, AskedKind, FetchAsked, StoreAsked, Value};
+pub use limits::{KIND_WEIGHT, MAX_ANSWER, MAX_KEPT, MAX_WEIGHT, SLOT_WEIGHT};
+pub use record::{Held, Kept};
+pub use refusal::Refusal;
+pub use request::{Asked, AskedKind, FetchAsked, JoinAsked, StoreAsked, Value};
 pub use verdict::{FetchVerdict, StoreVerdict};

@@ -1,16 +1,18 @@
 -- A word is read as a decimal exactly where it is the decimal of the number.
 use Rattle.std.proofs.Common.{◌≡◌, ℕ, ◌+◌, ◌-◌, ◌*◌, ◌^◌, ◌<◌, ◌≤◌, Bool, true, false, ◌&&◌, ◌||◌, cond, List, [], ◌∷◌, length, get_or, Option, Some, None, refl, sym, ap, ◌∙◌, inl, inr, arith, rules}
-use Rattle.std.specs.Prelude.{nat_lt, ◌==◌, IfSome}
+use Rattle.std.specs.Prelude.{nat_lt, nat_le, ◌==◌}
 use Rattle.std.specs.Char.{is_ascii_digit}
 use Rattle.std.specs.Fmt.{decimal}
 use Rattle.std.specs.List.{list_all}
-use Rattle.std.proofs.lemmas.Bool.{and_parts, cases_eq}
+use Rattle.std.proofs.lemmas.Bool.{and_parts, cases_eq, leb-true, le-leb}
 use Rattle.std.proofs.lemmas.Bool.Decides.{nat_tests}
 use Rattle.std.proofs.lemmas.Fmt.{digits_decimal, digits_value-decimal, decimal-digits_value, first_decimal, decimal_nonempty, decimal_digit}
 use Rattle.std.proofs.lemmas.Str.Parse.{IsNumeralModel, numerals_by_fold}
 use Rattle.std.proofs.lemmas.Option.{same_Some}
-use Rattle.text_words.proofs.StepsLaws.{bind_some}
-use Rattle.text_words.specs.Decimal.{with_digit, with_digits, decimal_of}
+use Rattle.text_words.proofs.StepsLaws.{bind_some, allowed_some}
+use Rattle.text_words.specs.Codec.{IsCodec}
+use Rattle.text_words.specs.Decimal.{with_digit, with_digits, decimal_of, number_of}
+use Rattle.text_words.specs.Steps.{allowed}
 
 -- the number that digits make of the number before them
 abbrev read_on : ℕ → List ℕ → ℕ
@@ -104,7 +106,24 @@ decimal_of-decimal most n small fits =
     ∙ with_digits-fits most 0 (decimal n) (all_digits-decimal n below) (omega (arith, value))
     ∙ ap Some value
 
--- the same of what a reader answers
-pub decimal_found : (most : ℕ) (word : List ℕ) (found : Option ℕ) → most < 2 ^ 64 → found ≡ decimal_of most word → IfSome found (λ n. (n ≤ most) × (word ≡ decimal n))
-decimal_found most word None small e = tt
-decimal_found most word (Some n) small e = decimal_of-takes most word n small (sym e)
+-- both ways
+pub decimal_codec : (most : ℕ) → most < 2 ^ 64 → IsCodec (decimal_of most) decimal (λ n. n ≤ most)
+decimal_codec most small = record { takes = λ word n e. decimal_of-takes most word n small e; again = λ n fits. decimal_of-decimal most n small fits }
+
+-- a number from `least` to `most`
+number_of-takes : (least most : ℕ) (word : List ℕ) (n : ℕ) → most < 2 ^ 64 → number_of least most word ≡ Some n → ((least ≤ n) × (n ≤ most)) × (word ≡ decimal n)
+unfolding number_of
+number_of-takes least most word n small e =
+    let a = bind_some (decimal_of most word) _ n e in
+    let b = bind_some (allowed (nat_le least a.0)) _ n a.2 in
+    let same = same_Some a.0 n b.2 in
+    let from = leb-true least a.0 (allowed_some (nat_le least a.0) b.0 b.1) in
+    let read = decimal_of-takes most word a.0 small a.1 in
+    ((omega (arith, from, same), omega (arith, read.0, same)), read.1 ∙ ap decimal same)
+
+number_of-again : (least most n : ℕ) → most < 2 ^ 64 → (least ≤ n) × (n ≤ most) → number_of least most (decimal n) ≡ Some n
+unfolding number_of
+number_of-again least most n small fits = rw (decimal_of-decimal most n small fits.1, le-leb least n fits.0) refl
+
+pub number_codec : (least most : ℕ) → most < 2 ^ 64 → IsCodec (number_of least most) decimal (λ n. (least ≤ n) × (n ≤ most))
+number_codec least most small = record { takes = λ word n e. number_of-takes least most word n small e; again = λ n fits. number_of-again least most n small fits }

@@ -1,16 +1,17 @@
 -- A word is read as bytes exactly where it is their lower-case hex text.
 use Rattle.std.proofs.Common.{◌≡◌, ℕ, zero, suc, ◌+◌, ◌*◌, ◌/◌, ◌%◌, ◌<◌, ◌==◌, Bool, true, false, ◌&&◌, ◌||◌, cond, List, [], ◌∷◌, ◌++◌, length, take, get_or, slice_index, Option, Some, None, unwrap_or, Result, Ok, Err, refl, sym, ap, ◌∙◌, inl, inr, append_assoc, append-nil, arith}
-use Rattle.std.specs.Prelude.{IfSome, IfOk, not}
+use Rattle.std.specs.Prelude.{not}
 use Rattle.std.specs.List.{list_all}
 use Rattle.std.specs.Result.{result_ok, result_unwrap_or}
 use Rattle.std.proofs.lemmas.Bool.{and_parts, cases_lt, eqb-true}
 use Rattle.std.proofs.lemmas.Bool.Decides.{nat_tests}
-use Rattle.std.proofs.lemmas.List.{get_or_past, take_more}
+use Rattle.std.proofs.lemmas.List.{get_or_past, get_or_default, take_more}
 use Rattle.std.proofs.lemmas.List.Elements.{All-head, All-tail}
 use Rattle.std.proofs.lemmas.Option.{same_Some}
 use Rattle.hex.specs.Hex.{IsBytes, decode_of, decode_pairs, digit_or_error, hex_digit_value, encode_lower, encode_with, lower_digits, pair_value, value_at, ◌>>=◌}
 use Rattle.hex.specs.declared.error.FromHexError.{FromHexError}
 use Rattle.hex.proofs.HexLemmas.{decode_of-even, decode_of-ok, decode_of-encode_lower}
+use Rattle.text_words.specs.Codec.{IsCodec}
 use Rattle.text_words.specs.Hex.{AllBytes, hex_of, is_lower_digit}
 
 -- ---- the sixteen digits
@@ -157,13 +158,13 @@ pub encode_lower-none : (out : List ℕ) → out ≡ out ++ encode_lower []
 unfolding encode_with
 encode_lower-none out = sym (append-nil out)
 
--- the same of what a reader answers
-pub hex_found : {E : Type 0} (word : List ℕ) (found : Result (Option (List ℕ)) E) → IfOk found (λ r. r ≡ hex_of word) → IfOk found (λ r. IfSome r (λ bytes. word ≡ encode_lower bytes))
-hex_found word (Ok None) e = tt
-hex_found word (Ok (Some bytes)) e = hex_of-takes word bytes (sym e)
-hex_found word (Err failed) e = tt
+-- what is read are bytes
+pub hex_of-bytes : (word bytes : List ℕ) → hex_of word ≡ Some bytes → AllBytes bytes
+unfolding hex_of
+hex_of-bytes word bytes e =
+    let found = when_takes (list_all is_lower_digit word) (result_ok (decode_of word)) bytes e in
+    let small = (decode_of-ok word bytes (ok_from_some (decode_of word) bytes found.1)).3 in
+    λ k d within. rw (get_or_default bytes k d 0 within) (small k)
 
--- the text of bytes is answered by them
-pub hex_only : {E : Type 0} (word bytes : List ℕ) (found : Result (Option (List ℕ)) E) → IfOk found (λ r. r ≡ hex_of word) → AllBytes bytes → word ≡ encode_lower bytes → IfOk found (λ r. r ≡ Some bytes)
-hex_only word bytes (Ok r) e each is = e ∙ ap hex_of is ∙ hex_of-encode_lower bytes each
-hex_only word bytes (Err failed) e each is = tt
+pub hex_codec : IsCodec hex_of encode_lower AllBytes
+hex_codec = record { takes = λ word bytes e. (hex_of-bytes word bytes e, hex_of-takes word bytes e); again = hex_of-encode_lower }

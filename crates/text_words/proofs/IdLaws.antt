@@ -1,17 +1,18 @@
--- A word is read as a number below 2^128 exactly where it is its 32 digits.
+-- A word is read as a number below 2^128 exactly where it is its 32 digits, and as one below 2^32 where it is its 8.
 use Rattle.std.proofs.Common.{◌≡◌, ℕ, zero, suc, ◌+◌, ◌*◌, ◌/◌, ◌%◌, ◌^◌, ◌<◌, List, [], ◌∷◌, ◌++◌, length, take, drop, get_or, Option, Some, None, refl, sym, ap, subst, ◌∙◌, arith}
-use Rattle.std.specs.Prelude.{option_map, IfSome}
-use Rattle.std.specs.Int.{w64, w128, to_be_bytes, from_be_bytes, byte_at, bytes_high_first}
+use Rattle.std.specs.Prelude.{option_map}
+use Rattle.std.specs.Int.{w32, w64, w128, to_be_bytes, from_be_bytes, byte_at, bytes_high_first}
 use Rattle.std.specs.List.{list_all}
 use Rattle.std.specs.Result.{result_ok}
 use Rattle.std.proofs.lemmas.List.{take-append-drop, length-take, length-drop, get_or-take, get_or-drop}
 use Rattle.std.proofs.lemmas.List.Elements.{All-nil, All-cons}
-use Rattle.std.proofs.lemmas.Nat.{be_bytes_8, from_be_bytes-to_be_bytes_8, div-mul-add, mod-mul-add, field_of, mod-pow-add, mod_low, mod_below}
+use Rattle.std.proofs.lemmas.Nat.{be_bytes_4, be_bytes_8, from_be_bytes-to_be_bytes_4, from_be_bytes-to_be_bytes_8, div-mul-add, mod-mul-add, field_of, mod-pow-add, mod_low, mod_below}
 use Rattle.std.proofs.lemmas.Option.{same_Some}
 use Rattle.std.proofs.Math.Nat.{div-div-eq-div-mul}
 use Rattle.hex.specs.Hex.{decode_sized, encode_lower}
 use Rattle.hex.proofs.HexLemmas.{decode_of-ok, decode_sized-ok, decode_sized-twice, decode_sized-encode_lower}
-use Rattle.text_words.specs.Hex.{AllBytes, is_lower_digit}
+use Rattle.text_words.specs.Codec.{IsCodec}
+use Rattle.text_words.specs.Hex.{AllBytes, is_lower_digit, number_in_hex, number_in_hex_of}
 use Rattle.text_words.specs.Id.{id_text, id_of}
 use Rattle.text_words.proofs.HexLaws.{IsBytes-all, decode_of-lower, ok_from_some, when_takes, all_lower-encode_lower}
 
@@ -145,7 +146,45 @@ id_of-id_text n fits =
     let read = decode_sized-encode_lower (to_be_bytes w128 n) 16 refl (IsBytes-all (to_be_bytes w128 n) each) in
     rw (all_lower-encode_lower (to_be_bytes w128 n) each, read) (ap Some (from_be_bytes-to_be_bytes_16 n fits))
 
--- the same of what a reader answers
-pub id_found : (word : List ℕ) (found : Option ℕ) → found ≡ id_of word → IfSome found (λ n. word ≡ id_text n)
-id_found word None e = tt
-id_found word (Some n) e = id_of-takes word n (sym e)
+pub id_codec : IsCodec id_of id_text (λ id. id < 2 ^ 128)
+id_codec = record { takes = λ word id e. (id_of-below word id e, id_of-takes word id e); again = id_of-id_text }
+
+-- ---- words of 8 digits
+
+-- four bytes, which make the number of 8 digits
+record IsReadInHex (word : List ℕ) (n : ℕ) : Type 0 where
+  bytes : List ℕ
+  four : length bytes ≡ 4
+  small : (k : ℕ) → get_or bytes k 0 < 256
+  spelled : word ≡ encode_lower bytes
+  number : from_be_bytes w32 bytes ≡ n
+
+number_in_hex_of-read : (word : List ℕ) (n : ℕ) → number_in_hex_of word ≡ Some n → IsReadInHex word n
+unfolding number_in_hex_of
+number_in_hex_of-read word n e =
+    let found = when_takes (list_all is_lower_digit word) (option_map (from_be_bytes w32) (result_ok (decode_sized word 4))) n e in
+    let read = map_some (from_be_bytes w32) (result_ok (decode_sized word 4)) n found.1 in
+    let sized = ok_from_some (decode_sized word 4) read.0 read.1 in
+    let long = decode_sized-ok word 4 read.0 sized in
+    let ok = sym (decode_sized-twice word 4 long) ∙ sized in
+    let parts = decode_of-ok word read.0 ok in
+    record { bytes = read.0; four = omega (arith, long, parts.2); small = parts.3; spelled = decode_of-lower word read.0 found.0 ok; number = read.2 }
+
+four_below : (bytes : List ℕ) → ((k : ℕ) → get_or bytes k 0 < 256) → from_be_bytes w32 bytes < 2 ^ 32
+four_below bytes small = omega (arith, small 0, small 1, small 2, small 3)
+
+number_in_hex_of-takes : (word : List ℕ) (n : ℕ) → number_in_hex_of word ≡ Some n → (n < 2 ^ 32) × (word ≡ number_in_hex n)
+unfolding number_in_hex
+number_in_hex_of-takes word n e =
+    let x = number_in_hex_of-read word n e in
+    (subst (λ (m : ℕ). m < 2 ^ 32) x.number (four_below x.bytes x.small), x.spelled ∙ ap encode_lower (sym (be_bytes_4 x.bytes n x.four x.small (sym x.number))))
+
+number_in_hex_of-again : (n : ℕ) → n < 2 ^ 32 → number_in_hex_of (number_in_hex n) ≡ Some n
+unfolding number_in_hex_of number_in_hex
+number_in_hex_of-again n fits =
+    let each = AllBytes-high_first 4 n in
+    let read = decode_sized-encode_lower (to_be_bytes w32 n) 4 refl (IsBytes-all (to_be_bytes w32 n) each) in
+    rw (all_lower-encode_lower (to_be_bytes w32 n) each, read) (ap Some (from_be_bytes-to_be_bytes_4 n fits))
+
+pub number_in_hex_codec : IsCodec number_in_hex_of number_in_hex (λ n. n < 2 ^ 32)
+number_in_hex_codec = record { takes = number_in_hex_of-takes; again = number_in_hex_of-again }

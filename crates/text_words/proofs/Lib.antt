@@ -1,8 +1,14 @@
+pub mod CodecLaws
 pub mod DecimalLaws
 pub mod HexLaws
 pub mod IdLaws
+pub mod LabelledLaws
 pub mod Lacking
 pub mod LinesLaws
+pub mod ListedLaws
 pub mod NameLaws
+pub mod PiecesLaws
+pub mod PutLaws
 pub mod SeparatorLaws
 pub mod StepsLaws
+pub mod TransactionLaws

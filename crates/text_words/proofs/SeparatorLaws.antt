@@ -1,5 +1,5 @@
 -- What stands before and behind a separator, and where there is none.
-use Rattle.std.proofs.Common.{◌≡◌, ◌≢◌, ℕ, zero, suc, ◌+◌, ◌<◌, ◌≤◌, Bool, false, cond, List, [], ◌∷◌, ◌++◌, length, take, drop, get_or, Option, Some, None, refl, sym, ap, add-one, eq-eqb, ◌∙◌, arith}
+use Rattle.std.proofs.Common.{◌≡◌, ◌≢◌, ℕ, zero, suc, ◌+◌, ◌<◌, ◌≤◌, Bool, true, false, cond, List, [], ◌∷◌, ◌++◌, length, take, drop, get_or, Option, Some, None, refl, sym, ap, add-one, eq-eqb, ◌∙◌, arith}
 use Rattle.std.specs.Prelude.{◌==◌, nat_lt, position, option_map, IfSome, IfNone}
 use Rattle.std.specs.List.{position_or_len}
 use Rattle.std.specs.Str.{bytes_eq}
@@ -171,3 +171,22 @@ upto_first before behind byte bytes (Some p) e = (upto-takes byte bytes (before 
 pub upto_missed : {Part : Type 0} (before behind : Part → List ℕ) (byte : ℕ) (bytes : List ℕ) (found : Option Part) → option_map (λ p. (before p, behind p)) found ≡ upto byte bytes → IfNone found (Lacks byte bytes)
 upto_missed before behind byte bytes None e = upto-none byte bytes (sym e)
 upto_missed before behind byte bytes (Some p) e = tt
+
+-- a fixed text isn't at the front of a word that lacks its first byte
+pub behind-other : (first : ℕ) (text word : List ℕ) → Lacks first word → behind (first ∷ text) word ≡ None
+behind-other first text word lacks = by_found (behind (first ∷ text) word) refl
+  where
+    by_found : (found : Option (List ℕ)) → behind (first ∷ text) word ≡ found → found ≡ None
+    by_found None e = refl
+    by_found (Some rest) e =
+        let is = behind-takes (first ∷ text) word rest e in
+        let parts = Lacks-head first first (text ++ rest) (rw (← is) lacks) in
+        absurd (parts.0 refl)
+
+-- nor is such a word that text
+pub bytes_eq-other : (first : ℕ) (text word : List ℕ) → Lacks first word → bytes_eq word (first ∷ text) ≡ false
+bytes_eq-other first text word lacks = by_test (bytes_eq word (first ∷ text)) refl
+  where
+    by_test : (same : Bool) → bytes_eq word (first ∷ text) ≡ same → same ≡ false
+    by_test false e = refl
+    by_test true e = absurd ((Lacks-head first first text (rw ((bytes_eq-Decides word (first ∷ text)).0 e) at lacks)).0 refl)

@@ -13,4 +13,6 @@ id_text id = encode_lower (to_be_bytes w128 id)
 -- the number of 32 digits
 unfoldable pub id_of : List ℕ → Option ℕ
 id_of word =
-    if list_all is_lower_digit word then option_map (from_be_bytes w128) (result_ok (decode_sized word 16)) else None
+    if list_all is_lower_digit word
+    then option_map (from_be_bytes w128) (result_ok (decode_sized word 16))
+    else None

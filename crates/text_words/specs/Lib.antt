@@ -1,7 +1,10 @@
+pub mod Codec
 pub mod Decimal
 pub mod Hex
 pub mod Id
+pub mod Labelled
 pub mod Lines
+pub mod Listed
 pub mod Name
 pub mod Separator
 pub mod Steps

@@ -1,17 +1,18 @@
 //! Decimals as words, at most of 64 bits.
 
-ghost use Rattle.std.specs.Prelude.{◌≡◌, ℕ, ◌≤◌, ◌++◌, Option, Some, IfSome, OnOk, OnErr};
+ghost use Rattle.std.specs.Prelude.{◌≡◌, ◌≤◌};
 ghost use Rattle.std.specs.Fmt.{decimal};
-ghost use Rattle.text_words.specs.Decimal.{with_digit, with_digits, decimal_of};
+ghost use Rattle.text_words.specs.Codec.{Appended, Spells};
+ghost use Rattle.text_words.specs.Decimal.{with_digit, with_digits, decimal_of, number_of};
 
+use crate::steps::allowed;
 use itoa::Buffer;
 use reload_base::{Bytes, NoMemory};
 
 /// The number at most `most` that a word spells: decimal digits without a sign or a leading zero.
 pub fn decimal_of(most: u64, word: &[u8]) -> Option<u64>
     ensures value { result ≡ decimal_of most word.now }
-    ensures found { IfSome result (λ n. (n ≤ most) × (word.now ≡ decimal n)) }
-    ensures only { (n : ℕ) → n ≤ most → word.now ≡ decimal n → result ≡ Some n }
+    ensures spells { Spells decimal (λ n. n ≤ most) word.now result }
 {
     read(most, word)
 }
@@ -55,10 +56,27 @@ fn with_digit(most: u64, n: u64, digit: u8) -> Option<u64>
     }
 }
 
-/// Appends a number as a word. After `NoMemory` the bytes are as before.
+/// The number from `least` to `most` that a word spells.
+pub fn number_of(least: u64, most: u64, word: &[u8]) -> Option<u64>
+    ensures value { result ≡ number_of least most word.now }
+    ensures spells { Spells decimal (λ n. (least ≤ n) × (n ≤ most)) word.now result }
+{
+    read_from(least, most, word)
+}
+
+// The same: a number that is too small is refused behind the others.
+#[tactic(auto, unfolding(crate::specs::Decimal::number_of))]
+fn read_from(least: u64, most: u64, word: &[u8]) -> Option<u64>
+    ensures { result ≡ number_of least most word.now }
+{
+    let n = decimal_of(most, word)?;
+    allowed(least <= n)?;
+    Some(n)
+}
+
+/// Appends a number as a word.
 pub fn put_decimal(out: &mut Bytes, n: u64) -> Result<(), NoMemory>
-    ensures ok { OnOk result (out.new ≡ out.old ++ decimal n) }
-    ensures err { OnErr result (out.new ≡ out.old) }
+    ensures { Appended out.old out.new (decimal n) result }
 {
     out.extend(Buffer::new().format(n).as_bytes())
 }

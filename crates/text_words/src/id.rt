@@ -1,6 +1,7 @@
 //! Node-IDs and Resource-IDs as words of 32 hex digits.
 
-ghost use Rattle.std.specs.Prelude.{◌≡◌, ℕ, ◌^◌, ◌<◌, ◌++◌, Some, IfSome, OnOk, OnErr};
+ghost use Rattle.std.specs.Prelude.{◌≡◌, ◌^◌, ◌<◌};
+ghost use Rattle.text_words.specs.Codec.{Appended, Spells};
 ghost use Rattle.text_words.specs.Id.{id_of, id_text};
 
 use crate::hex_word::are_lower_digits;
@@ -9,8 +10,7 @@ use reload_base::{Bytes, NoMemory};
 /// The number that a word spells: 32 lower-case hex digits, big-endian.
 pub fn id_of(word: &[u8]) -> Option<u128>
     ensures value { result ≡ id_of word.now }
-    ensures found { IfSome result (λ n. word.now ≡ id_text n) }
-    ensures only { (n : ℕ) → n < 2 ^ 128 → word.now ≡ id_text n → result ≡ Some n }
+    ensures spells { Spells id_text (λ id. id < 2 ^ 128) word.now result }
 {
     read(word)
 }
@@ -28,11 +28,10 @@ fn read(word: &[u8]) -> Option<u128>
     Some(u128::from_be_bytes(bytes))
 }
 
-/// Appends a number as a word of 32 digits. After `NoMemory` the bytes are as before.
+/// Appends a number as a word of 32 digits.
 #[tactic(auto, unfolding(crate::specs::Id::id_text))]
 pub fn put_id(out: &mut Bytes, id: u128) -> Result<(), NoMemory>
-    ensures ok { OnOk result (out.new ≡ out.old ++ id_text id) }
-    ensures err { OnErr result (out.new ≡ out.old) }
+    ensures { Appended out.old out.new (id_text id) result }
 {
     let mut word = [0; 32];
     hex::encode_to_slice(id.to_be_bytes(), &mut word).unwrap();

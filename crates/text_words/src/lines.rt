@@ -8,22 +8,25 @@ ghost use Rattle.text_words.specs.Separator.{upto};
 
 use crate::separator::upto;
 
-// The most bytes of a line, its line feed not counted.
-const MOST: usize = 400_000;
+/// The most bytes of a line, its line feed not counted.
+pub const MAX_LINE: usize = 400_000;
+
+/// The byte that ends a line.
+pub const LINE_FEED: u8 = b'\n';
 
 /// The first line, without its line feed, and what follows it. None where no line feed is left.
 pub fn first_line(text: &[u8]) -> Option<(&[u8], &[u8])>
-    ensures { option_map (λ r. (r.0.now, r.1.now)) result ≡ upto 10 text.now }
+    ensures { option_map (λ r. (r.0.now, r.1.now)) result ≡ upto LINE_FEED text.now }
 {
-    upto(b'\n', text)
+    upto(LINE_FEED, text)
 }
 
-/// Whether a line is ASCII and at most 400,000 bytes long, its line feed not counted.
+/// Whether a line is ASCII and at most `MAX_LINE` bytes long.
 #[tactic(auto, unfolding(crate::specs::Lines::is_sound_line))]
 pub fn is_sound_line(line: &[u8]) -> bool
     ensures { result ≡ is_sound_line line.now }
 {
-    line.len() <= MOST && is_ascii(line)
+    line.len() <= MAX_LINE && is_ascii(line)
 }
 
 fn is_ascii(line: &[u8]) -> bool

@@ -9,7 +9,8 @@ ghost use Rattle.text_words.specs.Separator.{behind, upto, Lacks};
 pub fn behind<'a>(text: &[u8], bytes: &'a [u8]) -> Option<&'a [u8]>
     ensures value { option_copied result ≡ behind text.now bytes.now }
     ensures found { IfSome result (λ rest. bytes.now ≡ text.now ++ rest.now) }
-    ensures only { (rest : List ℕ) → bytes.now ≡ text.now ++ rest → option_copied result ≡ Some rest }
+    ensures only { (rest : List ℕ) → bytes.now ≡ text.now ++ rest → option_copied result
+        ≡ Some rest }
 {
     bytes.strip_prefix(text)
 }
@@ -19,8 +20,10 @@ pub fn upto(byte: u8, bytes: &[u8]) -> Option<(&[u8], &[u8])>
     ensures value { option_map (λ r. (r.0.now, r.1.now)) result ≡ upto byte bytes.now }
     ensures found { IfSome result (λ r. bytes.now ≡ r.0.now ++ byte ∷ r.1.now) }
     ensures first { IfSome result (λ r. Lacks byte r.0.now) }
-    ensures only { (before behind : List ℕ) → Lacks byte before → bytes.now ≡ before ++ byte ∷ behind
-        → option_map {U = List ℕ × List ℕ} (λ r. (r.0.now, r.1.now)) result ≡ Some (before, behind) }
+    ensures only { (before behind : List ℕ) → Lacks byte before → bytes.now ≡ before
+        ++ byte ∷ behind
+        → option_map {U = List ℕ × List ℕ} (λ r. (r.0.now, r.1.now)) result
+        ≡ Some (before, behind) }
     ensures none { IfNone result (Lacks byte bytes.now) }
 {
     split_round(byte, bytes)

@@ -143,3 +143,95 @@ fn lines(rt: HostRuntime) -> Result<(), Fail> {
     assert!(rt; is_sound_line(longest.as_slice().split_at(400_000).0));
     Ok(())
 }
+
+#[test]
+fn transactions(rt: HostRuntime) -> Result<(), Fail> {
+    let spelt: [(&[u8], u64); 3] = [
+        (b"0.0", 0),
+        (b"2.1", 8_589_934_593),
+        (b"4294967295.4294967295", u64::MAX),
+    ];
+    for (word, id) in spelt {
+        assert_eq!(rt; transaction_of(word), Some(id));
+        let mut out = List::new(rt.alloc());
+        put_transaction(&mut out, id)?;
+        assert_eq!(rt; out.as_slice(), word);
+    }
+    let refused: [&[u8]; 5] = [b"1", b".1", b"1.", b"4294967296.0", b"1.2.3"];
+    for word in refused {
+        assert_eq!(rt; transaction_of(word), None);
+    }
+    Ok(())
+}
+
+#[test]
+fn numbers_in_hex(rt: HostRuntime) -> Result<(), Fail> {
+    assert_eq!(rt; number_in_hex_of(b"d2454c4f"), Some(0xD245_4C4F));
+    let mut out = List::new(rt.alloc());
+    put_number_in_hex(&mut out, 0xD245_4C4F)?;
+    assert_eq!(rt; out.as_slice(), b"d2454c4f".as_slice());
+    let refused: [&[u8]; 4] = [b"", b"d2454c4", b"d2454c4f0", b"D2454C4F"];
+    for word in refused {
+        assert_eq!(rt; number_in_hex_of(word), None);
+    }
+    Ok(())
+}
+
+#[test]
+fn words(rt: HostRuntime) {
+    let mut line = words_of(b"a bc  d");
+    assert_eq!(rt; line.first(), Some(b"a".as_slice()));
+    assert_eq!(rt; line.take(), Some(b"a".as_slice()));
+    assert_eq!(rt; line.take(), Some(b"bc".as_slice()));
+    assert_eq!(rt; line.take(), Some(b"".as_slice()));
+    assert!(rt; !line.is_empty());
+    assert_eq!(rt; line.take(), Some(b"d".as_slice()));
+    assert!(rt; line.is_empty());
+    assert_eq!(rt; line.take(), None);
+    assert_eq!(rt; words_of(b"alone").only(), Some(b"alone".as_slice()));
+    assert_eq!(rt; words_of(b"not alone").only(), None);
+}
+
+#[test]
+fn labels(rt: HostRuntime) -> Result<(), Fail> {
+    assert_eq!(rt; number_of(1, 9, b"0"), None);
+    assert_eq!(rt; number_of(1, 9, b"9"), Some(9));
+    assert_eq!(rt; labelled_of(b"max=", 9, b"max=9"), Some(9));
+    assert_eq!(rt; labelled_of(b"max=", 9, b"max=10"), None);
+    let mut line = words_of(b"max=7 256");
+    assert_eq!(rt; take_labelled(&mut line, b"ttl=", 9), Some(None));
+    assert_eq!(rt; take_labelled(&mut line, b"max=", 9), Some(Some(7)));
+    assert_eq!(rt; line.take(), Some(b"256".as_slice()));
+    assert_eq!(rt; take_labelled(&mut words_of(b"max=x"), b"max=", 9), None);
+    assert_eq!(rt; at_name_of(b"@abc"), Some(b"abc".as_slice()));
+    assert_eq!(rt; at_name_of(b"@"), None);
+    assert!(rt; key_name_of(rt.alloc(), b"=5")?.is_none());
+    let mut out = List::new(rt.alloc());
+    put_labelled(&mut out, b"max=", 7)?;
+    put_at_name(&mut out, b"abc")?;
+    put_key_name(&mut out, b"P")?;
+    assert_eq!(rt; out.as_slice(), b"max=7@abc=50".as_slice());
+    Ok(())
+}
+
+#[test]
+fn lists_in_a_word(rt: HostRuntime) -> Result<(), Fail> {
+    let word: &[u8] = b"3-3,0-4294967295";
+    let ranges = ranges_of(rt.alloc(), word)?.ok_or("ranges")?;
+    assert_eq!(rt; ranges.as_slice(), [(3, 3), (0, 4_294_967_295)].as_slice());
+    let mut out = List::new(rt.alloc());
+    put_ranges(&mut out, ranges.as_slice())?;
+    assert_eq!(rt; out.as_slice(), word);
+    let keys: &[u8] = b"=50,=,=6261";
+    let names = key_names_of(rt.alloc(), keys)?.ok_or("names")?;
+    assert_eq!(rt; names.len(), 3);
+    let mut out = List::new(rt.alloc());
+    put_key_names(&mut out, names.as_slice())?;
+    assert_eq!(rt; out.as_slice(), keys);
+    let refused: [&[u8]; 5] = [b"", b"1", b"1-2,", b"1-4294967296", b"1-2;3-4"];
+    for word in refused {
+        assert!(rt; ranges_of(rt.alloc(), word)?.is_none());
+        assert!(rt; key_names_of(rt.alloc(), word)?.is_none());
+    }
+    Ok(())
+}

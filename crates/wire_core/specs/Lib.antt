@@ -1,3 +1,5 @@
+pub mod Ids
+pub mod Laws
 pub mod Layout
 pub mod Part
 pub mod Reading

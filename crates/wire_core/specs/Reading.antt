@@ -1,19 +1,20 @@
 -- Reading from the front of a part: a value and what is left of the part, or the first fault.
-use Rattle.std.specs.Prelude.{◌≡◌, ℕ, zero, suc, List, [], ◌∷◌, length, take, Bool, Result, Ok, Err, nat_lt, nat_le, ◌==◌, if◌then◌else◌}
+use Rattle.std.specs.Prelude.{◌≡◌, ℕ, zero, suc, List, [], ◌∷◌, length, take, Bool, Option, Some, None, Result, Ok, Err, nat_lt, nat_le, ◌==◌, if◌then◌else◌}
 use Rattle.byteorder.specs.Endian.{big_number}
 use Rattle.wire_core.specs.declared.bad.Bad.{Bad}
 use Rattle.wire_core.specs.declared.bad.Reason.{Reason}
 use Rattle.wire_core.specs.declared.bad.Reason.TheVariants.{Short, LengthPast, BadValue, Trailing, TooLarge}
 use Rattle.wire_core.specs.declared.bad.DecodeFault.{DecodeFault}
 use Rattle.wire_core.specs.declared.bad.DecodeFault.TheVariants as faults
-use Rattle.wire_core.specs.Part.{Part, end_of, behind}
+use Rattle.wire_core.specs.Part.{Part, part, end_of, behind}
 
 -- from a part to a value and what is left, or to the first fault
 abbrev pub Reader : Type 0 → Type 0
 Reader A = Part → Result (A × Part) Bad
 
 -- what was read, and then what follows
-abbrev pub and_then : {A B : Type 0} → Result (A × Part) Bad → (A → Reader B) → Result (B × Part) Bad
+abbrev pub and_then : {A B : Type 0} → Result (A × Part) Bad → (A → Reader B)
+    → Result (B × Part) Bad
 and_then (Ok x) next = next x.0 x.1
 and_then (Err bad) next = Err bad
 
@@ -39,6 +40,11 @@ refused place reason p = Err (record { place = place; reason = reason })
 unfoldable pub allowed : Bool → ℕ → Reason → Reader (Unit {0})
 allowed test place reason = if test then done tt else refused place reason
 
+-- a value, or a fault where there is none
+unfoldable pub given : {A : Type 0} → Option A → ℕ → Reason → Reader A
+given (Some x) place reason = done x
+given None place reason = refused place reason
+
 -- the place of the next byte
 unfoldable pub place_at : Reader ℕ
 place_at p = Ok (p.place, p)
@@ -57,7 +63,9 @@ rest_at p = Ok (p.bytes, record { place = end_of p; bytes = [] })
 
 -- the next n bytes
 unfoldable pub bytes_at : ℕ → Reader (List ℕ)
-bytes_at n p = if nat_lt (length p.bytes) n then refused (end_of p) Short p else Ok (take n p.bytes, behind n p)
+bytes_at n p =
+    if nat_lt (length p.bytes) n then refused (end_of p) Short p
+    else Ok (take n p.bytes, behind n p)
 
 -- a number in n bytes, the highest first
 unfoldable pub number_at : ℕ → Reader ℕ
@@ -109,44 +117,61 @@ sized_part_at n size = do
   allowed (len == size) place BadValue
   stretch_at place len
 
+-- what was read, and not what is left
+abbrev pub value_of : {A : Type 0} → Result (A × Part) Bad → Result A Bad
+value_of (Ok x) = Ok x.0
+value_of (Err bad) = Err bad
+
 -- what fills a part of its own, and then reading goes on behind that part
 abbrev pub inside : {A : Type 0} → Part → Reader A → Reader A
-inside part read p = and_then (read part) (λ x left. and_then (ended left) (λ _ _. done x p))
+inside content read p = and_then (read content) (λ x left. and_then (ended left) (λ _ _. done x p))
 
 -- what fills the next len bytes, where their length stands at a place
 unfoldable pub filled_at : {A : Type 0} → ℕ → ℕ → Reader A → Reader A
 filled_at place len read = do
-  part ← stretch_at place len
-  inside part read
+  stretch ← stretch_at place len
+  inside stretch read
 
 -- a length in n bytes, and what fills so many bytes
 unfoldable pub vector_at : {A : Type 0} → ℕ → Reader A → Reader A
 vector_at n read = do
-  part ← part_at n
-  inside part read
+  content ← part_at n
+  inside content read
 
 -- the same, where any other length is refused
 unfoldable pub sized_at : {A : Type 0} → ℕ → ℕ → Reader A → Reader A
 sized_at n size read = do
-  part ← sized_part_at n size
-  inside part read
+  content ← sized_part_at n size
+  inside content read
 
--- an id behind its length: the byte 16, and 16 bytes
-unfoldable pub id_at : Reader ℕ
-id_at = do
+-- what a number in n bytes stands for; a number that stands for nothing is a bad value
+unfoldable pub code_at : {A : Type 0} → ℕ → (ℕ → Option A) → Reader A
+code_at n meaning = do
   place ← place_at
-  len ← number_at 1
-  allowed (len == 16) place BadValue
-  number_at 16
+  code ← number_at n
+  given (meaning code) place BadValue
+
+-- one field, and then another
+unfoldable pub pair_at : {A B : Type 0} → Reader A → Reader B → Reader (A × B)
+pair_at one other = do
+  first ← one
+  second ← other
+  done (first, second)
 
 -- at most n entries, up to the end of the part
 unfoldable pub entries_at : {A : Type 0} → Reader A → ℕ → Reader (List A)
 entries_at read zero p = Ok ([], p)
-entries_at read (suc n) p = if length p.bytes == 0 then Ok ([], p) else and_then (read p) (λ x. entries_at read n >>= λ xs. done (x ∷ xs))
+entries_at read (suc n) p =
+    if length p.bytes == 0 then Ok ([], p)
+    else and_then (read p) (λ x. entries_at read n >>= λ xs. done (x ∷ xs))
 
 -- the entries up to the end of the part, each of which takes a byte at least
 unfoldable pub list_at : {A : Type 0} → Reader A → Reader (List A)
 list_at read p = entries_at read (length p.bytes) p
+
+-- what all of some bytes spell, the first of which stands at place 0
+abbrev pub whole_of : {A : Type 0} → Reader A → List ℕ → Result A Bad
+whole_of read bytes = value_of (inside (part 0 bytes) read (part 0 bytes))
 
 -- A call answered what this reading gives, and left what it leaves.
 abbrev pub Reads : {A : Type 0} → Result A Bad → Part → Result (A × Part) Bad → Type 0

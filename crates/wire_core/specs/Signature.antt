@@ -5,7 +5,7 @@ use Rattle.wire_core.specs.declared.signature.Signature.{Signature}
 use Rattle.wire_core.specs.declared.signature.SignerIdentity.{SignerIdentity}
 use Rattle.wire_core.specs.declared.signature.SignerIdentity.TheVariants as signers
 use Rattle.wire_core.specs.Spelling.{AreBytes, number, vector, joined}
-use Rattle.wire_core.specs.Reading.{Reader, ◌>>=◌, done, refused, place_at, rest_at, number_at, vector_at}
+use Rattle.wire_core.specs.Reading.{Reader, ◌>>=◌, ◌>>◌, done, refused, place_at, rest_at, number_at, vector_at}
 
 -- a hash behind the number of its algorithm, in a part of its own
 abbrev pub hash_part : ℕ → List ℕ → List ℕ
@@ -19,7 +19,8 @@ identity signers.None = number 1 3 ++ vector 2 []
 
 -- a signature's bytes
 unfoldable pub signature : Signature → List ℕ
-signature s = joined (number 1 s.hash ∷ number 1 s.algorithm ∷ identity s.identity ∷ vector 2 s.value ∷ [])
+signature s = joined (number 1 s.hash ∷ number 1 s.algorithm ∷ identity s.identity
+    ∷ vector 2 s.value ∷ [])
 
 -- A hash has at most 255 bytes.
 abbrev pub IsSpelledIdentity : SignerIdentity → Type 0
@@ -65,12 +66,17 @@ cert_hash_node_id_at = do
 
 -- nobody, behind its type: an empty part
 unfoldable pub no_identity_at : Reader SignerIdentity
-no_identity_at = vector_at 2 (done signers.None)
+no_identity_at = do
+  vector_at 2 (done tt)
+  done signers.None
 
 -- what follows an identity's first byte, which stands at a place
 unfoldable pub identity_of : ℕ → ℕ → Reader SignerIdentity
 identity_of place code =
-    if code == 1 then cert_hash_at else (if code == 2 then cert_hash_node_id_at else (if code == 3 then no_identity_at else refused place BadValue))
+    if code == 1 then cert_hash_at
+    else (if code == 2 then cert_hash_node_id_at
+    else (if code == 3 then no_identity_at
+    else refused place BadValue))
 
 -- an identity; any other first byte than 1, 2 or 3 is a bad value
 unfoldable pub identity_at : Reader SignerIdentity

@@ -18,10 +18,6 @@ boolean b = number 1 (if b then 1 else 0)
 abbrev pub vector : ℕ → List ℕ → List ℕ
 vector n content = number n (length content) ++ content
 
--- an id behind its length: the byte 16, and 16 bytes
-abbrev pub id : ℕ → List ℕ
-id n = number 1 16 ++ number 16 n
-
 -- fields one after the other
 abbrev pub joined : List (List ℕ) → List ℕ
 joined [] = []

@@ -3,7 +3,7 @@
 ghost use Rattle.std.specs.Prelude.{◌≡◌};
 ghost use Rattle.wire_core.specs.declared.bad.DecodeFault.TheVariants as faults;
 ghost use Rattle.wire_core.specs.Part.{Part};
-ghost use Rattle.wire_core.specs.Reading.{Reads, allowed};
+ghost use Rattle.wire_core.specs.Reading.{Reads, allowed, given};
 
 use reload_base::NoMemory;
 
@@ -64,5 +64,16 @@ pub fn allowed(test: bool, place: u64, reason: Reason) -> Result<(), Bad>
         Ok(())
     } else {
         Err(Bad { place, reason })
+    }
+}
+
+/// A value as a step of reading: a fault at a place where there is none.
+#[tactic(auto, unfolding(crate::specs::Reading::given))]
+pub fn given<T>(value: Option<T>, place: u64, reason: Reason) -> Result<T, Bad>
+    ensures { (p : Part) → Reads result p (given value place reason p) }
+{
+    match value {
+        Some(value) => Ok(value),
+        None => Err(Bad { place, reason }),
     }
 }

@@ -3,14 +3,14 @@
 ghost use Rattle.std.specs.Prelude.{◌≡◌, ◌+◌, ◌^◌, ◌<◌, ◌≤◌, ◌==◌, [], length, MatchResult, IfOk, Ok, Err};
 ghost use Rattle.wire_core.specs.Part.{end_of};
 ghost use Rattle.wire_core.specs.Spelling.{AreBytes};
-ghost use Rattle.wire_core.specs.Reading.{Reads, place_at, ended, bytes_at, number_at, exact_at, limited_at, boolean_at, stretch_at, part_at, sized_part_at, id_at};
+ghost use Rattle.wire_core.specs.Reading.{Reads, place_at, ended, bytes_at, number_at, exact_at, limited_at, boolean_at, stretch_at, part_at, sized_part_at};
 
 use crate::bad::{Bad, Reason, allowed};
 use byteorder::{BigEndian, ByteOrder};
 use std::marker::Model;
 
-/// What is left to read of a part of the input. Contracts see the place of its first byte in the whole input,
-/// and its bytes. After a refusal the place of a cursor is open.
+/// What is left to read of a part of the input. Contracts see the place of its first byte in the
+/// whole input, and its bytes. After a refusal the place of a cursor is open.
 #[derive(Debug, Drop)]
 pub struct Cursor<'a> {
     bytes: &'a [u8],
@@ -217,8 +217,8 @@ impl<'a> Cursor<'a> {
         Ok(number)
     }
 
-    /// The next `len` bytes as a cursor of their own. Their length stands at `place`, where it is refused if
-    /// fewer are left.
+    /// The next `len` bytes as a cursor of their own. Their length stands at `place`, where it is
+    /// refused if fewer are left.
     #[tactic(auto, unfolding(crate::specs::Reading::stretch_at))]
     pub fn take_stretch(&mut self, place: u64, len: u32) -> Result<Cursor<'a>, Bad>
         ensures { Reads result self.new (stretch_at place len self.old) }
@@ -260,17 +260,6 @@ impl<'a> Cursor<'a> {
         let len = self.take_number(width)?;
         allowed(len == size, place, Reason::BadValue)?;
         self.take_stretch(place, len)
-    }
-
-    /// An id of 128 bits behind its length: the byte 16, any other of which is a bad value, and 16 bytes.
-    #[tactic(auto, unfolding(crate::specs::Reading::id_at))]
-    pub fn take_id(&mut self) -> Result<u128, Bad>
-        ensures { Reads result self.new (id_at self.old) }
-    {
-        let place = self.place();
-        let len = self.take_u8()?;
-        allowed(len == 16, place, Reason::BadValue)?;
-        self.take_u128()
     }
 }
 

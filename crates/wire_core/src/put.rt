@@ -1,7 +1,7 @@
 //! Writing numbers at the end of bytes, the highest byte first.
 
-ghost use Rattle.std.specs.Prelude.{◌≡◌, ◌^◌, ◌<◌, ◌≤◌, ◌++◌, length, OnOk, OnErr};
-ghost use Rattle.wire_core.specs.Spelling.{number, boolean, vector, id};
+ghost use Rattle.std.specs.Prelude.{◌≡◌, ◌^◌, ◌<◌, ◌≤◌, ◌++◌, length, take, OnOk, OnErr};
+ghost use Rattle.wire_core.specs.Spelling.{number, boolean, vector};
 
 use byteorder::{BigEndian, ByteOrder};
 use reload_base::{Bytes, NoMemory};
@@ -79,7 +79,8 @@ pub fn put_boolean(out: &mut Bytes, v: bool) -> Result<(), NoMemory>
     put_u8(out, if v { 1 } else { 0 })
 }
 
-/// Adds the length of a vector, which stands in `width` bytes. After `NoMemory` the bytes are as before.
+/// Adds the length of a vector, which stands in `width` bytes. After `NoMemory` the bytes are as
+/// before.
 pub fn put_length(out: &mut Bytes, width: u8, len: u64) -> Result<(), NoMemory>
     requires low { 1 ≤ width }
     requires high { width ≤ 4 }
@@ -95,22 +96,29 @@ pub fn put_length(out: &mut Bytes, width: u8, len: u64) -> Result<(), NoMemory>
     }
 }
 
-/// Adds a vector of bytes, whose length stands in `width` bytes. After `NoMemory` the bytes may have its front.
+/// Cuts bytes back to the length that they had before a call, unless the call did all.
+pub fn cut_back(out: &mut Bytes, len: usize, put: Result<(), NoMemory>) -> Result<(), NoMemory>
+    ensures same { result ≡ put }
+    ensures ok { OnOk put (out.new ≡ out.old) }
+    ensures err { OnErr put (out.new ≡ take len out.old) }
+{
+    if put.is_err() {
+        out.truncate(len);
+    }
+    put
+}
+
+/// Adds a vector of bytes, whose length stands in `width` bytes. After `NoMemory` the bytes are as
+/// before.
 pub fn put_bytes(out: &mut Bytes, width: u8, bytes: &[u8]) -> Result<(), NoMemory>
     requires low { 1 ≤ width }
     requires high { width ≤ 4 }
     requires fits { length bytes.now < 256 ^ width }
-    ensures { OnOk result (out.new ≡ out.old ++ vector width bytes.now) }
+    ensures ok { OnOk result (out.new ≡ out.old ++ vector width bytes.now) }
+    ensures err { OnErr result (out.new ≡ out.old) }
 {
+    let len = out.len();
     put_length(out, width, bytes.len() as u64)?;
-    out.extend(bytes)
-}
-
-/// Adds an id of 128 bits behind its length: the byte 16, and 16 bytes. After `NoMemory` the bytes may have its
-/// front.
-pub fn put_id(out: &mut Bytes, v: u128) -> Result<(), NoMemory>
-    ensures { OnOk result (out.new ≡ out.old ++ id v) }
-{
-    put_u8(out, 16)?;
-    put_u128(out, v)
+    let put = out.extend(bytes);
+    cut_back(out, len, put)
 }

@@ -42,12 +42,21 @@ fn declarations_outside_the_grammar(rt: HostRuntime) -> Result<(), Fail> {
         (1, "overlay  abc"),
         (1, "overlay a\x7fb"),
         (1, "# an overlay\u{e9}"),
-        (2, "kind 256 single user-match 1 0 0"),
+        (2, "kind 256 single user-match 0 140000 0"),
+        (2, "kind 256 single user-match 1025 140000 0"),
         (2, "kind 256 single user-match 1 140001 0"),
+        (2, "kind 256 single user-match 1 140000 1"),
+        (2, "kind 256 single user-node-match 1 140000 0"),
+        (2, "kind 256 single node-multiple 1 140000 0"),
+        (2, "kind 256 single node-multiple 1 140000 21"),
+        (2, "kind 256 list user-match 1 140000 0"),
         (2, "kind 0256 single user-match 1 140000 0"),
         (3, "peer 1 00000000000000000000000000000000 p"),
         (3, "peer 1 ffffffffffffffffffffffffffffffff p"),
         (3, "peer 10000 80000000000000000000000000000000 p"),
+        (4, "kind 256 array user-match 4 100 0"),
+        (4, "peer 3 40000000000000000000000000000000 abc"),
+        (4, "hostile 2 40000000000000000000000000000000 abc"),
         (4, "client 1 40000000000000000000000000000000 abc"),
         (4, "client 2 80000000000000000000000000000000 abc"),
         (4, "client 2 A0000000000000000000000000000000 abc"),
@@ -78,6 +87,10 @@ fn events_outside_the_grammar(rt: HostRuntime) -> Result<(), Fail> {
         (5, "store 2 1 @abc kind=257/0 -:5000:60:+6869"),
         (5, "store 2 1 abc kind=256/0 -:5000:60:+6869"),
         (5, "store 2 1 @abc kind=256/0 =61:5000:60:+6869"),
+        (5, "store 2 1 @abc kind=256/0 0:5000:60:+6869"),
+        (5, "store 2 1 @abc kind=256/0 end:5000:60:+6869"),
+        (5, "store 2 1 @abc kind=256/0"),
+        (5, "store 2 1 @abc seq=1 kind=256/0 -:5000:60:+6869"),
         (5, "store 3 1 @abc kind=256/0 -:5000:60:+6869"),
         (5, "store 2 3 @abc kind=256/0 -:5000:60:+6869"),
         (5, " "),
@@ -90,7 +103,10 @@ fn events_outside_the_grammar(rt: HostRuntime) -> Result<(), Fail> {
         (6, "fetch 2 1 @abc 257"),
         (6, "fetch 2 1 @abc 256/"),
         (6, "fetch 2 1 @abc 256:*"),
-        (6, "fetch 2 1 @abc 256 256"),
+        (6, "fetch 2 1 @abc 256:0-1"),
+        (6, "fetch 2 1 @abc 256 max=9"),
+        (6, "fetch 2 1 @abc ttl=9 256"),
+        (6, "client 3 30000000000000000000000000000000 abc"),
         (6, "lose 1"),
     ];
     for (n, line) in cases {
@@ -100,20 +116,24 @@ fn events_outside_the_grammar(rt: HostRuntime) -> Result<(), Fail> {
     Ok(())
 }
 
+// Declarations without a peer.
+const NO_PEER: &str = "overlay abc\n\
+    kind 256 single user-match 1 2 0\n\
+    client 2 40000000000000000000000000000000 abc\n";
+
 #[test]
 fn the_first_bad_line_of_a_text(rt: HostRuntime) -> Result<(), Fail> {
-    let cases: [(&[&str], usize); 8] = [
+    let cases: [(&[&str], usize); 10] = [
         (&[""], 1),
         (&["\n"], 2),
         (&["overlay abc"], 1),
         (&["overlay abc\nkind\npeer\n"], 2),
         (
-            &[
-                DECLARATIONS,
-                "client 3 30000000000000000000000000000000 abc\n",
-            ],
+            &[DECLARATIONS, "peer 3 30000000000000000000000000000000 p\n"],
             5,
         ),
+        (&[NO_PEER], 4),
+        (&[NO_PEER, "# a comment\n", "deliver 1\n"], 5),
         (&[DECLARATIONS, "# no line feed"], 5),
         (
             &["# a comment\x7f\n\n", DECLARATIONS, "\n#\ndeliver 01\n"],
@@ -121,7 +141,8 @@ fn the_first_bad_line_of_a_text(rt: HostRuntime) -> Result<(), Fail> {
         ),
         (
             &[
-                "overlay abc\nkind 256 single user-match 1 2 0\npeer 1 80000000000000000000000000000000 p\n",
+                "overlay abc\nkind 256 single user-match 1 2 0\n\
+                peer 1 80000000000000000000000000000000 p\n",
                 "store 2 1 @abc kind=256/0 -:5000:60:+6869\n",
             ],
             4,

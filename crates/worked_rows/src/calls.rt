@@ -16,12 +16,16 @@ pub const THREE_DELIVERIES: &str = "store 2 1 @abc kind=256/0 -:5000:60:+6869\n\
     deliver 1\n\
     deliver 1\n";
 
-/// The transcript of three deliveries behind the declarations: the Store acts once, and its client is answered once.
+/// The transcript of three deliveries behind the declarations: the Store acts once, and its client
+/// is answered once.
 pub const ACTS_ONCE: &str =
-    "decide 1 0 a9993e364706816aba3e25717850c26c store 2 2.1 kind=256/0 -:5000:60:+6869:2:96 -> ok 256:1\n\
+    "decide 1 0 a9993e364706816aba3e25717850c26c store 2 2.1 kind=256/0 -:5000:60:+6869:2:96 \
+    -> ok 256:1\n\
     answer 2.1 ok 256:1\n\
-    decide 1 0 a9993e364706816aba3e25717850c26c store 2 2.1 kind=256/0 -:5000:60:+6869:2:96 -> ok 256:1\n\
-    decide 1 0 a9993e364706816aba3e25717850c26c store 2 2.1 kind=256/0 -:5000:60:+6869:2:96 -> ok 256:1\n\
+    decide 1 0 a9993e364706816aba3e25717850c26c store 2 2.1 kind=256/0 -:5000:60:+6869:2:96 \
+    -> ok 256:1\n\
+    decide 1 0 a9993e364706816aba3e25717850c26c store 2 2.1 kind=256/0 -:5000:60:+6869:2:96 \
+    -> ok 256:1\n\
     end requests=1 decisions=3\n";
 
 /// Texts one behind the other.
@@ -38,7 +42,8 @@ pub fn repeated(alloc: Global, byte: u8, count: usize) -> Result<Bytes, NoMemory
     Ok(Bytes::from_vec(vec![in alloc; byte; count]?))
 }
 
-/// The status that a call answers, and what it writes, where the reads and writes of these numbers fail.
+/// The status that a call answers, and what it writes, where the reads and writes of these numbers
+/// fail.
 pub fn ended(
     alloc: Global,
     words: &[&str],

@@ -30,9 +30,11 @@ const ONE_TIME: (&str, &str) = (
     "store 2 1 @abc kind=256/0 -:5000:60:+41\n\
     store 2 1 @abc kind=256/0 -:5000:60:+42\n\
     drain 40\n",
-    "decide 1 0 a9993e364706816aba3e25717850c26c store 2 2.1 kind=256/0 -:5000:60:+41:2:95 -> ok 256:1\n\
+    "decide 1 0 a9993e364706816aba3e25717850c26c store 2 2.1 kind=256/0 -:5000:60:+41:2:95 \
+    -> ok 256:1\n\
     answer 2.1 ok 256:1\n\
-    decide 1 0 a9993e364706816aba3e25717850c26c store 2 2.2 kind=256/0 -:5000:60:+42:2:95 -> error 9\n\
+    decide 1 0 a9993e364706816aba3e25717850c26c store 2 2.2 kind=256/0 -:5000:60:+42:2:95 \
+    -> error 9\n\
     answer 2.2 error 9\n\
     end requests=2 decisions=2\n",
 );
@@ -47,13 +49,17 @@ const COUNTERS: (&str, &str) = (
     drain 1\n\
     store 2 1 @abc kind=256/9 -:4:60:+41\n\
     drain 1\n",
-    "decide 1 0 a9993e364706816aba3e25717850c26c store 2 2.1 kind=256/0 -:1:60:+41:2:95 -> ok 256:1\n\
+    "decide 1 0 a9993e364706816aba3e25717850c26c store 2 2.1 kind=256/0 -:1:60:+41:2:95 \
+    -> ok 256:1\n\
     answer 2.1 ok 256:1\n\
-    decide 1 0 a9993e364706816aba3e25717850c26c store 2 2.2 kind=256/1 -:2:60:+41:2:95 -> ok 256:2\n\
+    decide 1 0 a9993e364706816aba3e25717850c26c store 2 2.2 kind=256/1 -:2:60:+41:2:95 \
+    -> ok 256:2\n\
     answer 2.2 ok 256:2\n\
-    decide 1 0 a9993e364706816aba3e25717850c26c store 2 2.3 kind=256/1 -:3:60:+41:2:95 -> error 5 256:2\n\
+    decide 1 0 a9993e364706816aba3e25717850c26c store 2 2.3 kind=256/1 -:3:60:+41:2:95 -> error 5 \
+    256:2\n\
     answer 2.3 error 5 256:2\n\
-    decide 1 0 a9993e364706816aba3e25717850c26c store 2 2.4 kind=256/9 -:4:60:+41:2:95 -> error 5 256:2\n\
+    decide 1 0 a9993e364706816aba3e25717850c26c store 2 2.4 kind=256/9 -:4:60:+41:2:95 -> error 5 \
+    256:2\n\
     answer 2.4 error 5 256:2\n\
     end requests=4 decisions=4\n",
 );
@@ -61,7 +67,8 @@ const COUNTERS: (&str, &str) = (
 // A Store under another name, and a delivery of a request that wasn't issued.
 const REFUSED: (&str, &str) = (
     "store 2 1 @test kind=256/0 -:5000:60:+6869\ndeliver 1\ndeliver 2\n",
-    "decide 1 0 a94a8fe5ccb19ba61c4c0873d391e987 store 2 2.1 kind=256/0 -:5000:60:+6869:2:96 -> error 2\n\
+    "decide 1 0 a94a8fe5ccb19ba61c4c0873d391e987 store 2 2.1 kind=256/0 -:5000:60:+6869:2:96 \
+    -> error 2\n\
     answer 2.1 error 2\n\
     refused 7 no-such-frame\n\
     end requests=1 decisions=1\n",
@@ -86,7 +93,8 @@ const REMOVED: (&str, &str) = (
     answer 2.3 kind=256/2\n\
     decide 1 0 a9993e364706816aba3e25717850c26c fetch 2 2.4 max=0 256/1 -> kind=256/2 -:2:60:-\n\
     answer 2.4 kind=256/2 -:2:60:-\n\
-    decide 1 0 a9993e364706816aba3e25717850c26c store 2 2.5 kind=256/2 -:18446744073709551615:0:+41:2:95 -> ok 256:3\n\
+    decide 1 0 a9993e364706816aba3e25717850c26c store 2 2.5 kind=256/2 \
+    -:18446744073709551615:0:+41:2:95 -> ok 256:3\n\
     answer 2.5 ok 256:3\n\
     end requests=5 decisions=5\n",
 );
@@ -110,19 +118,23 @@ const SECOND_OF_LIFE: (&str, &str) = (
     fetch 2 1 @abc 256\n\
     drain 20\n\
     deliver 1\n",
-    "decide 1 0 a9993e364706816aba3e25717850c26c store 2 2.1 kind=256/0 -:5000:1:+6869:2:96 -> ok 256:1\n\
+    "decide 1 0 a9993e364706816aba3e25717850c26c store 2 2.1 kind=256/0 -:5000:1:+6869:2:96 \
+    -> ok 256:1\n\
     answer 2.1 ok 256:1\n\
-    decide 1 999 a9993e364706816aba3e25717850c26c fetch 2 2.2 max=0 256/0 -> kind=256/1 -:5000:1:+6869\n\
+    decide 1 999 a9993e364706816aba3e25717850c26c fetch 2 2.2 max=0 256/0 -> kind=256/1 \
+    -:5000:1:+6869\n\
     answer 2.2 kind=256/1 -:5000:1:+6869\n\
     decide 1 1000 a9993e364706816aba3e25717850c26c fetch 2 2.3 max=0 256/0 -> kind=256/1 -:0:0:-\n\
     answer 2.3 kind=256/1 -:0:0:-\n\
-    decide 1 1000 a9993e364706816aba3e25717850c26c store 2 2.1 kind=256/0 -:5000:1:+6869:2:96 -> ok 256:1\n",
+    decide 1 1000 a9993e364706816aba3e25717850c26c store 2 2.1 kind=256/0 -:5000:1:+6869:2:96 \
+    -> ok 256:1\n",
 );
 
 // The lines of the decision on a Store of the same time again, which is too old.
 fn too_old(alloc: Global, number: u64) -> Result<Bytes, NoMemory> {
     let lines = format!(in alloc;
-        "decide 1 1000 a9993e364706816aba3e25717850c26c store 2 2.{number} kind=256/0 -:5000:1:+6869:2:96 -> error 9\nanswer 2.{number} error 9\n"
+        "decide 1 1000 a9993e364706816aba3e25717850c26c store 2 2.{number} kind=256/0 \
+        -:5000:1:+6869:2:96 -> error 9\nanswer 2.{number} error 9\n"
     )?;
     Bytes::from_slice(alloc, lines.as_bytes())
 }
@@ -137,7 +149,8 @@ fn an_answer_is_kept_for_64_decisions(rt: HostRuntime) -> Result<(), Fail> {
     }
     events.extend(b"deliver 1\n")?;
     lines.extend(
-        b"decide 1 1000 a9993e364706816aba3e25717850c26c store 2 2.1 kind=256/0 -:5000:1:+6869:2:96 -> error 9\n",
+        b"decide 1 1000 a9993e364706816aba3e25717850c26c store 2 2.1 kind=256/0 \
+        -:5000:1:+6869:2:96 -> error 9\n",
     )?;
     lines.extend(b"end requests=67 decisions=69\n")?;
     assert_run(&rt, events.as_slice(), lines.as_slice())

@@ -2,13 +2,25 @@
 #![tactic(auto)]
 
 #[cfg(test)]
+mod asked_words;
+#[cfg(test)]
 mod bad_lines;
 #[cfg(test)]
 mod calls;
 #[cfg(test)]
+mod causes;
+#[cfg(test)]
+mod drawn;
+#[cfg(test)]
+mod draws;
+#[cfg(test)]
 mod fetches;
 #[cfg(test)]
+mod limits;
+#[cfg(test)]
 mod listings;
+#[cfg(test)]
+mod models;
 #[cfg(test)]
 mod plain;
 #[cfg(test)]

@@ -8,19 +8,33 @@ const ABC_AND_ACK: [u8; 20] = [
     0x80, 0, 0, 0, 1, 0, 0, 3, 0x61, 0x62, 0x63, 0x81, 0, 0, 0, 1, 0, 0, 0, 0,
 ];
 
-// A payload of sequence 9 whose message is a header with empty lists, and the ack of sequence 32.
-const MESSAGE_AND_ACK: [u8; 55] = [
-    0x80, 0, 0, 0, 9, 0, 0, 38, 0xd2, 0x45, 0x4c, 0x4f, 0x9c, 0xd0, 0xd8, 0x9d, 0, 1, 0x0a, 100,
-    0xc0, 0, 0, 0, 0, 0, 0, 38, 0, 0, 0, 2, 0, 0, 0, 1, 0, 0, 0x10, 0, 0, 0, 0, 0, 0, 0, 0x81, 0,
-    0, 0, 32, 0x80, 0, 0, 2,
+// A payload of sequence 9 whose message is a Ping without lists, padding and certificates, which
+// nobody signed, and the ack of sequence 32.
+const MESSAGE_AND_ACK: [u8; 76] = [
+    0x80, 0, 0, 0, 9, 0, 0, 59, 0xd2, 0x45, 0x4c, 0x4f, 0x9c, 0xd0, 0xd8, 0x9d, 0, 1, 0x0a, 100,
+    0xc0, 0, 0, 0, 0, 0, 0, 59, 0, 0, 0, 2, 0, 0, 0, 1, 0, 0, 0x10, 0, 0, 0, 0, 0, 0, 0, 0, 23, 0,
+    0, 0, 2, 0, 0, 0, 0, 0, 0, 0, 0, 0, 0, 3, 0, 0, 0, 0, 0x81, 0, 0, 0, 32, 0x80, 0, 0, 2,
 ];
 
-const MESSAGE_LINES: &str = "frame 0 payload 9 38\n\
-    message overlay=9cd0d89d seq=1 ttl=100 length=38 id=2.1 max=4096 via=0 dest=0 options=0\n";
+const FRAME_LINES: &str = "frame 0 payload 9 59\n";
 
-const WHOLE_LINES: &str = "frame 0 payload 9 38\n\
-    message overlay=9cd0d89d seq=1 ttl=100 length=38 id=2.1 max=4096 via=0 dest=0 options=0\n\
-    frame 46 ack 32 80000002\n";
+const HEADER_LINES: &str = "frame 0 payload 9 59\n\
+    message overlay=9cd0d89d seq=1 ttl=100 length=59 id=2.1 max=4096 via=0 dest=0 options=0\n";
+
+const CONTENTS_LINES: &str = "frame 0 payload 9 59\n\
+    message overlay=9cd0d89d seq=1 ttl=100 length=59 id=2.1 max=4096 via=0 dest=0 options=0\n\
+    contents code=23 body=2 extensions=0\n";
+
+const MESSAGE_LINES: &str = "frame 0 payload 9 59\n\
+    message overlay=9cd0d89d seq=1 ttl=100 length=59 id=2.1 max=4096 via=0 dest=0 options=0\n\
+    contents code=23 body=2 extensions=0\n\
+    security certificates=0 identity=3 value=0\n";
+
+const WHOLE_LINES: &str = "frame 0 payload 9 59\n\
+    message overlay=9cd0d89d seq=1 ttl=100 length=59 id=2.1 max=4096 via=0 dest=0 options=0\n\
+    contents code=23 body=2 extensions=0\n\
+    security certificates=0 identity=3 value=0\n\
+    frame 67 ack 32 80000002\n";
 
 // That a stream is listed so, and ends with this status.
 fn assert_listed(
@@ -56,17 +70,21 @@ fn streams_have_their_listings(rt: HostRuntime) -> Result<(), Fail> {
 
 #[test]
 fn a_fault_has_its_place_in_the_stream(rt: HostRuntime) -> Result<(), Fail> {
-    let own = "frame 0 payload 9 38\n";
     let cases = [
         (0, 0x7f, "", "bad 0 bad-value\n"),
         (5, 4, "", "bad 5 too-large\n"),
-        (7, 37, "frame 0 payload 9 37\n", "bad 24 length-past\n"),
-        (7, 39, "frame 0 payload 9 39\n", "bad 46 trailing\n"),
-        (8, 0, own, "bad 8 bad-value\n"),
-        (18, 9, own, "bad 18 bad-value\n"),
-        (40, 0x11, own, "bad 40 too-large\n"),
-        (41, 1, own, "bad 40 length-past\n"),
-        (46, 0, MESSAGE_LINES, "bad 46 bad-value\n"),
+        (7, 58, "frame 0 payload 9 58\n", "bad 24 length-past\n"),
+        (7, 60, "frame 0 payload 9 60\n", "bad 67 trailing\n"),
+        (8, 0, FRAME_LINES, "bad 8 bad-value\n"),
+        (18, 9, FRAME_LINES, "bad 18 bad-value\n"),
+        (40, 0x11, FRAME_LINES, "bad 40 too-large\n"),
+        (41, 1, FRAME_LINES, "bad 46 bad-value\n"),
+        (41, 30, FRAME_LINES, "bad 40 length-past\n"),
+        (51, 1, HEADER_LINES, "bad 53 short\n"),
+        (57, 1, HEADER_LINES, "bad 59 short\n"),
+        (62, 4, CONTENTS_LINES, "bad 62 bad-value\n"),
+        (66, 1, CONTENTS_LINES, "bad 65 length-past\n"),
+        (67, 0, MESSAGE_LINES, "bad 67 bad-value\n"),
     ];
     for (at, byte, lines, fault) in cases {
         let mut stream = MESSAGE_AND_ACK;
@@ -81,11 +99,11 @@ fn a_fault_has_its_place_in_the_stream(rt: HostRuntime) -> Result<(), Fail> {
 fn a_stream_that_ends_anywhere(rt: HostRuntime) -> Result<(), Fail> {
     for len in 0..=MESSAGE_AND_ACK.len() {
         let (lines, frames) = match len {
-            0..=45 => ("", 0),
-            46..=54 => (MESSAGE_LINES, 1),
+            0..=66 => ("", 0),
+            67..=75 => (MESSAGE_LINES, 1),
             _ => (WHOLE_LINES, 2),
         };
-        let is_whole = matches!(len, 0 | 46 | 55);
+        let is_whole = matches!(len, 0 | 67 | 76);
         let last = if is_whole {
             format!(in rt.alloc(); "end {frames} {len}")?
         } else {

@@ -1,281 +1,386 @@
-//! A plain program of the verdict, over one single kind of one resource, against which drawn scenarios are compared.
+//! A plain program of the verdict, for every data model and access policy, over several resources.
 
-use crate::calls::{DECLARATIONS, joined, run_of};
-use overlay_command::Status;
+mod fetch;
+mod sound;
+
+use crate::drawn::{
+    CLIENTS, Group, KEYS, KINDS, Kind, Model, Named, Place, Policy, RESOURCES, Store, Value,
+};
 use reload_base::{Bytes, NoMemory};
+pub use sound::{is_sound, is_sound_fetch};
 use std::alloc::Global;
-use std::test::Fail;
 
-// How many answers a record keeps.
-const KEPT: usize = 64;
+// How many answers a record keeps, and how much it weighs at the most.
+const MAX_KEPT: usize = 64;
 
-// A Store of the client under its own name. The value is one byte, with the decimal digits of `digits` as hex digits.
-#[derive(Clone, Copy)]
-struct Store {
-    generation: u64,
-    time: u64,
-    lifetime: u64,
-    digits: u64,
-}
+const MAX_WEIGHT: usize = 131_072;
 
 #[derive(Clone, Copy)]
-enum Request {
-    Store(Store),
-    Fetch(u64),
+struct Held {
+    value: Value,
+    expiry: u64,
 }
 
-// An error code, or 0, and the generation counter.
+// What a slot has come to. Its key is 0, an index, or the place of a dictionary's key.
 #[derive(Clone, Copy)]
-struct Verdict {
-    code: u64,
-    generation: u64,
-}
-
-// What the one slot has come to, and the answers in the order of their decisions.
-#[derive(Drop)]
-struct Plain {
-    generation: u64,
+struct Slot {
+    place: Place,
+    key: usize,
     floor: u64,
-    held: Option<(Store, u64)>,
-    answers: Vec<(u64, Verdict)>,
+    held: Option<Held>,
+}
+
+// What a kind has come to at a resource beside its slots.
+#[derive(Clone, Copy)]
+struct Count {
+    place: Place,
+    generation: u64,
+    append_floor: u64,
+}
+
+// An answer that a resource keeps.
+#[derive(Drop)]
+struct Kept {
+    resource: usize,
+    number: usize,
+    answer: Bytes,
+}
+
+/// What all resources have come to.
+#[derive(Drop)]
+pub struct Plain {
+    slots: Vec<Slot>,
+    counts: Vec<Count>,
+    kept: Vec<Kept>,
+}
+
+/// The kind at a place of the list.
+pub fn kind_at(place: usize) -> Kind {
+    KINDS.get(place).copied().unwrap_or(KINDS[0])
+}
+
+// The bytes of a key.
+fn key_size(kind: Kind, key: usize) -> usize {
+    match kind.model {
+        Model::Single => 0,
+        Model::Array => 4,
+        Model::Dictionary => KEYS.get(key).map_or(0, |digits| digits.len() / 2),
+    }
+}
+
+// The bytes of a gap, whose signature has 7.
+fn gap_size(kind: Kind, key: usize) -> usize {
+    match kind.model {
+        Model::Single => 28,
+        Model::Array => 32,
+        Model::Dictionary => key_size(kind, key).wrapping_add(30),
+    }
+}
+
+/// The bytes of a StoredData, whose signature has 73.
+pub fn stored_size(kind: Kind, key: usize, value: Value) -> usize {
+    gap_size(kind, key)
+        .wrapping_add(66)
+        .wrapping_add(value.length.unwrap_or(0))
+}
+
+// Whether a client may store under a key at a resource.
+fn permits(kind: Kind, client: usize, resource: usize, key: usize) -> bool {
+    let Some((_, id, user)) = CLIENTS.get(client).copied() else {
+        return false;
+    };
+    match (
+        kind.policy,
+        RESOURCES.get(resource).map(|resource| resource.1),
+    ) {
+        (Policy::UserMatch, Some(Named::User(name))) => name == user,
+        (Policy::UserNodeMatch, Some(Named::User(name))) => {
+            name == user && KEYS.get(key).is_some_and(|key| *key == id)
+        }
+        (Policy::NodeMatch, Some(Named::Node(node))) => node == client,
+        (Policy::NodeMultiple(most), Some(Named::NumberedNode(node, i))) => node == client
+            && i <= most,
+        _ => false,
+    }
+}
+
+// The greatest index among the slots of an array.
+fn greatest(slots: &[Slot], place: Place) -> Option<usize> {
+    let mut most = None;
+    for slot in slots {
+        if slot.place == place && most.is_none_or(|key| key < slot.key) {
+            most = Some(slot.key);
+        }
+    }
+    most
+}
+
+// Puts a value into a slot.
+fn put_value(
+    slots: &mut Vec<Slot>,
+    place: Place,
+    key: usize,
+    now: u64,
+    value: Value,
+) -> Result<(), NoMemory> {
+    let expiry = now.wrapping_add(value.lifetime.wrapping_mul(1000));
+    let slot = Slot {
+        place,
+        key,
+        floor: value.time,
+        held: Some(Held { value, expiry }),
+    };
+    for old in slots.iter_mut() {
+        if old.place == place && old.key == key {
+            *old = slot;
+            return Ok(());
+        }
+    }
+    slots.push(slot)?;
+    Ok(())
+}
+
+// Puts the values of a group: those with a key first, and then the others, each behind the greatest
+// index.
+fn put_group(slots: &mut Vec<Slot>, place: Place, now: u64, group: &Group) -> Result<(), NoMemory> {
+    for value in group.values.as_slice() {
+        if let Some(key) = value.key {
+            put_value(slots, place, key, now, *value)?;
+        }
+    }
+    for value in group.values.as_slice() {
+        if value.key.is_none() {
+            let next = greatest(slots.as_slice(), place).map_or(0, |key| key.wrapping_add(1));
+            put_value(slots, place, next, now, *value)?;
+        }
+    }
+    Ok(())
+}
+
+// What a kind at a resource weighs.
+fn weight(slots: &[Slot], place: Place) -> usize {
+    let kind = kind_at(place.kind);
+    let mut sum = 0_usize;
+    for slot in slots {
+        if slot.place == place {
+            let first = if sum == 0 { 32_usize } else { 0 };
+            let held = match slot.held {
+                Some(held) => stored_size(kind, slot.key, held.value),
+                None => 0,
+            };
+            let own = key_size(kind, slot.key).wrapping_add(64).wrapping_add(held);
+            sum = sum.wrapping_add(first).wrapping_add(own);
+        }
+    }
+    sum
+}
+
+// Whether a group passes its kind's limits with the slots as they are afterwards.
+fn is_too_large(slots: &[Slot], place: Place, group: &Group) -> bool {
+    let kind = kind_at(place.kind);
+    let count = slots.iter().filter(|slot| slot.place == place).count();
+    let last = greatest(slots, place);
+    let values = group.values.as_slice();
+    let beyond = values.iter().any(|value| value.key.or(last).is_some_and(|key| key >= kind.count));
+    let long = values
+        .iter()
+        .any(|value| value.length.unwrap_or(0) > kind.size);
+    long || count > kind.count || (kind.model == Model::Array && beyond)
 }
 
 impl Plain {
-    // The answer to a request, where it is one of the last that were given.
-    fn kept(&self, number: u64) -> Option<Verdict> {
-        let answers = self.answers.as_slice();
-        let last = answers.get(answers.len().saturating_sub(KEPT)..)?;
-        last.iter()
-            .find(|answer| answer.0 == number)
-            .map(|answer| answer.1)
+    pub fn new(alloc: Global) -> Plain {
+        Plain {
+            slots: Vec::new(alloc),
+            counts: Vec::new(alloc),
+            kept: Vec::new(alloc),
+        }
     }
 
-    // What a new Store is answered.
-    fn judge(&mut self, now: u64, store: Store) -> u64 {
-        if store.generation != 0 && store.generation != self.generation {
-            return 5;
-        }
-        if store.time <= self.floor {
-            return 9;
-        }
-        self.generation = self.generation.wrapping_add(1);
-        self.floor = store.time;
-        let expiry = now.wrapping_add(store.lifetime.wrapping_mul(1000));
-        self.held = Some((store, expiry));
-        0
-    }
-
-    fn decide(&mut self, now: u64, number: u64, store: Store) -> Result<Verdict, NoMemory> {
-        if let Some(verdict) = self.kept(number) {
-            return Ok(verdict);
-        }
-        let code = self.judge(now, store);
-        let verdict = Verdict {
-            code,
-            generation: self.generation,
+    fn count(&self, place: Place) -> Count {
+        let none = Count {
+            place,
+            generation: 0,
+            append_floor: 0,
         };
-        self.answers.push((number, verdict))?;
-        Ok(verdict)
+        let found = self
+            .counts
+            .as_slice()
+            .iter()
+            .copied()
+            .find(|count| count.place == place);
+        found.unwrap_or(none)
     }
 
-    // The answer to a Store as a line tells it.
-    fn stored(
+    fn slot(&self, place: Place, key: usize) -> Option<Slot> {
+        self.slots
+            .as_slice()
+            .iter()
+            .copied()
+            .find(|slot| slot.place == place && slot.key == key)
+    }
+
+    // The value that a slot holds, unless it is expired.
+    fn held(&self, place: Place, key: usize, now: u64) -> Option<Held> {
+        self.slot(place, key)?.held.filter(|held| held.expiry > now)
+    }
+
+    // Whether a storage time isn't over its floor, appends one after the other.
+    fn is_old(&self, place: Place, group: &Group) -> bool {
+        let mut floor = self.count(place).append_floor;
+        let mut old = false;
+        for value in group.values.as_slice() {
+            match value.key {
+                Some(key) => {
+                    let before = self.slot(place, key).map_or(0, |slot| slot.floor);
+                    old = old || value.time <= before;
+                }
+                None => {
+                    old = old || value.time <= floor;
+                    floor = value.time;
+                }
+            }
+        }
+        old
+    }
+
+    // The slots after a Store was accepted: expired values leave first.
+    fn slots_after(&self, alloc: Global, now: u64, store: &Store) -> Result<Vec<Slot>, NoMemory> {
+        let mut slots = self.slots.as_slice().to_vec(alloc)?;
+        for slot in slots.iter_mut() {
+            if slot.place.resource == store.resource {
+                slot.held = slot.held.filter(|held| held.expiry > now);
+            }
+        }
+        for group in store.groups.as_slice() {
+            put_group(&mut slots, store.place(group), now, group)?;
+        }
+        Ok(slots)
+    }
+
+    // A kind got values.
+    fn raise(&mut self, place: Place, group: &Group) -> Result<(), NoMemory> {
+        let mut count = self.count(place);
+        count.generation = count.generation.wrapping_add(1);
+        for value in group.values.as_slice() {
+            if value.key.is_none() {
+                count.append_floor = value.time;
+            }
+        }
+        for old in self.counts.iter_mut() {
+            if old.place == place {
+                *old = count;
+                return Ok(());
+            }
+        }
+        self.counts.push(count)?;
+        Ok(())
+    }
+
+    // Why a Store is refused for what is there, or 0.
+    fn refused(&self, store: &Store) -> u64 {
+        let groups = store.groups.as_slice();
+        let forbidden = groups.iter().any(|group| {
+            let kind = kind_at(group.kind);
+            let mut values = group.values.as_slice().iter();
+            values.any(|value| !permits(kind, store.client, store.resource, value.key.unwrap_or(0)))
+        });
+        let mut code = 0;
+        for group in groups {
+            let place = store.place(group);
+            if code == 0 && self.is_old(place, group) {
+                code = 9;
+            }
+            if group.generation != 0 && group.generation != self.count(place).generation {
+                code = 5;
+            }
+        }
+        if forbidden { 2 } else { code }
+    }
+
+    // The code of a Store that is decided for the first time, which is put where it is 0.
+    fn judge(&mut self, alloc: Global, now: u64, store: &Store) -> Result<u64, NoMemory> {
+        let code = self.refused(store);
+        if code != 0 {
+            return Ok(code);
+        }
+        let slots = self.slots_after(alloc, now, store)?;
+        let mut sum = 0_usize;
+        for kind in 0..KINDS.len() {
+            let place = Place {
+                resource: store.resource,
+                kind,
+            };
+            sum = sum.wrapping_add(weight(slots.as_slice(), place));
+        }
+        for group in store.groups.as_slice() {
+            if is_too_large(slots.as_slice(), store.place(group), group) {
+                return Ok(8);
+            }
+        }
+        if sum > MAX_WEIGHT {
+            return Ok(8);
+        }
+        self.slots = slots;
+        for group in store.groups.as_slice() {
+            self.raise(store.place(group), group)?;
+        }
+        Ok(0)
+    }
+
+    // A code with the counters of the kinds that a Store names.
+    fn told(&self, alloc: Global, code: u64, store: &Store) -> Result<Bytes, NoMemory> {
+        let mut text = Bytes::new(alloc);
+        if code == 0 {
+            text.extend(b"ok")?;
+        } else {
+            text.extend(format!(in alloc; "error {code}")?.as_bytes())?;
+        }
+        for group in store.groups.as_slice() {
+            if code == 0 || code == 5 {
+                let id = kind_at(group.kind).id;
+                let generation = self.count(store.place(group)).generation;
+                text.extend(format!(in alloc; " {id}:{generation}")?.as_bytes())?;
+            }
+        }
+        Ok(text)
+    }
+
+    // The answer that is kept for a request: one of the last that its resource gave.
+    fn kept(&self, resource: usize, number: usize) -> Option<&Kept> {
+        let mut seen = 0_usize;
+        for kept in self.kept.as_slice().iter().rev() {
+            if kept.resource == resource {
+                if kept.number == number {
+                    return Some(kept);
+                }
+                seen = seen.wrapping_add(1);
+                if seen == MAX_KEPT {
+                    return None;
+                }
+            }
+        }
+        None
+    }
+
+    /// The answer to a Store of this number that makes sense.
+    pub fn store(
         &mut self,
         alloc: Global,
         now: u64,
-        number: u64,
-        store: Store,
+        number: usize,
+        store: &Store,
     ) -> Result<Bytes, NoMemory> {
-        let Verdict { code, generation } = self.decide(now, number, store)?;
-        let text = match code {
-            0 => format!(in alloc; "ok 256:{generation}")?,
-            5 => format!(in alloc; "error 5 256:{generation}")?,
-            _ => format!(in alloc; "error {code}")?,
-        };
-        Bytes::from_slice(alloc, text.as_bytes())
-    }
-
-    // The answer to a Fetch that knows a generation.
-    fn fetched(&self, alloc: Global, now: u64, known: u64) -> Result<Bytes, NoMemory> {
-        let generation = self.generation;
-        if known != 0 && known == generation {
-            let text = format!(in alloc; "kind=256/{generation}")?;
-            return Bytes::from_slice(alloc, text.as_bytes());
+        if let Some(kept) = self.kept(store.resource, number) {
+            return Bytes::from_slice(alloc, kept.answer.as_slice());
         }
-        let text = match self.held {
-            Some((store, expiry)) if expiry > now => {
-                let (time, digits) = (store.time, store.digits);
-                let rest = expiry.wrapping_sub(now).wrapping_add(999) / 1000;
-                format!(in alloc; "kind=256/{generation} -:{time}:{rest}:+{digits}")?
-            }
-            _ => format!(in alloc; "kind=256/{generation} -:0:0:-")?,
-        };
-        Bytes::from_slice(alloc, text.as_bytes())
+        let code = self.judge(alloc, now, store)?;
+        let answer = self.told(alloc, code, store)?;
+        self.kept.push(Kept {
+            resource: store.resource,
+            number,
+            answer: Bytes::from_slice(alloc, answer.as_slice())?,
+        })?;
+        Ok(answer)
     }
-}
-
-// A scenario that is drawn line by line, and the transcript that the plain program gives it.
-#[derive(Drop)]
-struct Drawn {
-    seed: u64,
-    clock: u64,
-    requests: Vec<(Request, bool)>,
-    plain: Plain,
-    decisions: u64,
-    text: Bytes,
-    lines: Bytes,
-}
-
-impl Drawn {
-    fn new(alloc: Global, seed: u64) -> Result<Drawn, NoMemory> {
-        Ok(Drawn {
-            seed,
-            clock: 0,
-            requests: Vec::new(alloc),
-            plain: Plain {
-                generation: 0,
-                floor: 0,
-                held: None,
-                answers: Vec::new(alloc),
-            },
-            decisions: 0,
-            text: joined(alloc, &[DECLARATIONS])?,
-            lines: joined(alloc, &[DECLARATIONS])?,
-        })
-    }
-
-    // A number below `end`, by a linear congruence.
-    fn draw(&mut self, end: u64) -> u64 {
-        self.seed = self
-            .seed
-            .wrapping_mul(6_364_136_223_846_793_005)
-            .wrapping_add(1_442_695_040_888_963_407);
-        (self.seed >> 33).checked_rem(end).unwrap_or(0)
-    }
-
-    fn store(&mut self, alloc: Global) -> Result<(), NoMemory> {
-        let store = Store {
-            generation: self.draw(4),
-            time: self.draw(40),
-            lifetime: self.draw(4),
-            digits: self.draw(90).wrapping_add(10),
-        };
-        let Store {
-            generation,
-            time,
-            lifetime,
-            digits,
-        } = store;
-        let line = format!(in alloc;
-            "store 2 1 @abc kind=256/{generation} -:{time}:{lifetime}:+{digits}\n"
-        )?;
-        self.text.extend(line.as_bytes())?;
-        self.requests.push((Request::Store(store), false))?;
-        Ok(())
-    }
-
-    fn fetch(&mut self, alloc: Global) -> Result<(), NoMemory> {
-        let known = self.draw(4);
-        let line = format!(in alloc; "fetch 2 1 @abc 256/{known}\n")?;
-        self.text.extend(line.as_bytes())?;
-        self.requests.push((Request::Fetch(known), false))?;
-        Ok(())
-    }
-
-    fn tick(&mut self, alloc: Global) -> Result<(), NoMemory> {
-        let ms = self.draw(1500).wrapping_add(1);
-        let line = format!(in alloc; "clock {ms}\n")?;
-        self.text.extend(line.as_bytes())?;
-        self.clock = self.clock.wrapping_add(ms);
-        Ok(())
-    }
-
-    // The lines of a decision, and of its answer where it is the request's first.
-    fn tell(
-        &mut self,
-        alloc: Global,
-        number: u64,
-        request: Request,
-        first: bool,
-    ) -> Result<(), NoMemory> {
-        let now = self.clock;
-        let place = "a9993e364706816aba3e25717850c26c";
-        let (asked, answer) = match request {
-            Request::Store(store) => {
-                let Store {
-                    generation,
-                    time,
-                    lifetime,
-                    digits,
-                } = store;
-                (
-                    format!(in alloc;
-                        "decide 1 {now} {place} store 2 2.{number} kind=256/{generation} -:{time}:{lifetime}:+{digits}:2:95 -> "
-                    )?,
-                    self.plain.stored(alloc, now, number, store)?,
-                )
-            }
-            Request::Fetch(known) => (
-                format!(in alloc;
-                    "decide 1 {now} {place} fetch 2 2.{number} max=0 256/{known} -> "
-                )?,
-                self.plain.fetched(alloc, now, known)?,
-            ),
-        };
-        self.lines.extend(asked.as_bytes())?;
-        self.lines.extend(answer.as_slice())?;
-        self.lines.extend(b"\n")?;
-        if first {
-            let front = format!(in alloc; "answer 2.{number} ")?;
-            self.lines.extend(front.as_bytes())?;
-            self.lines.extend(answer.as_slice())?;
-            self.lines.extend(b"\n")?;
-        }
-        Ok(())
-    }
-
-    fn deliver(&mut self, alloc: Global) -> Result<(), NoMemory> {
-        let count = self.requests.len() as u64;
-        let index = self.draw(count);
-        let Some(entry) = self.requests.get_mut(index as usize) else {
-            return Ok(());
-        };
-        let (request, heard) = *entry;
-        *entry = (request, true);
-        let number = index.wrapping_add(1);
-        let line = format!(in alloc; "deliver {number}\n")?;
-        self.text.extend(line.as_bytes())?;
-        self.decisions = self.decisions.wrapping_add(1);
-        self.tell(alloc, number, request, !heard)
-    }
-
-    fn step(&mut self, alloc: Global) -> Result<(), NoMemory> {
-        match self.draw(8) {
-            0 | 1 => self.store(alloc),
-            2 => self.fetch(alloc),
-            3 => self.tick(alloc),
-            _ => self.deliver(alloc),
-        }
-    }
-}
-
-#[test]
-fn drawn_scenarios_are_decided_as_the_plain_program_does(rt: HostRuntime) -> Result<(), Fail> {
-    let alloc = rt.alloc();
-    for seed in 0..8 {
-        let mut drawn = Drawn::new(alloc, seed)?;
-        for _ in 0..400 {
-            drawn.step(alloc)?;
-        }
-        let (requests, decisions) = (drawn.requests.len(), drawn.decisions);
-        let end = format!(in alloc; "end requests={requests} decisions={decisions}\n")?;
-        drawn.lines.extend(end.as_bytes())?;
-        let (status, written) = run_of(alloc, drawn.text.as_slice())?;
-        assert_eq!(rt; status, Status::Done);
-        assert!(rt;
-            written.as_slice() == drawn.lines.as_slice(),
-            "of seed {seed}"
-        );
-    }
-    Ok(())
 }

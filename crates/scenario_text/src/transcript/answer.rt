@@ -1,112 +1,19 @@
 //! The answer to a request.
 
-ghost use Rattle.std.specs.Prelude.{◌≡◌, ◌++◌, OnOk};
+ghost use Rattle.std.specs.Prelude.{◌≡◌, ◌++◌, codes};
 ghost use Rattle.std.specs.List.{flat_map};
-ghost use Rattle.text_words.specs.Lines.{ended};
-ghost use Rattle.scenario_text.specs.Transcript.{counter_word, code_words, found_word, found_kind, decided_words, verdict_words, answer_words, answer_line};
+ghost use Rattle.hex.specs.Hex.{encode_lower};
+ghost use Rattle.text_words.specs.Codec.{Appended, AppendedSome};
+ghost use Rattle.text_words.specs.Lines.{ended, spaced, spaced_by};
 ghost use Rattle.scenario_text.specs.Answers.{answer_of};
+ghost use Rattle.scenario_text.specs.Transcript.{answer_line, answer_text, code_text, found_kind, found_values};
+ghost use Rattle.scenario_text.specs.Words.{counter_text};
 
-use crate::fixed::Fixed;
-use crate::transcript::request::put_stored;
-use data_models::{KindValues, StoreKind, StoredData};
+use crate::transcript::value::{put_all_stored, put_head};
+use data_models::{KindValues, StoreKind};
 use reload_base::{Bytes, NoMemory};
-use storage_model::{FetchVerdict, StoreVerdict};
-use text_words::{put_decimal, put_transaction};
-
-// Appends a Kind-ID and its generation counter behind a space.
-#[tactic(auto, unfolding(crate::specs::Transcript::counter_word))]
-fn put_counter(out: &mut Bytes, counter: &(u32, u64)) -> Result<(), NoMemory>
-    ensures { OnOk result (out.new ≡ out.old ++ counter_word counter.now) }
-{
-    out.extend(b" ")?;
-    put_decimal(out, u64::from(counter.0))?;
-    out.extend(b":")?;
-    put_decimal(out, counter.1)
-}
-
-fn put_counters(out: &mut Bytes, counters: &[(u32, u64)]) -> Result<(), NoMemory>
-    ensures { OnOk result (out.new ≡ out.old ++ flat_map counter_word counters.now) }
-{
-    for counter in counters {
-        put_counter(out, counter)?;
-    }
-    Ok(())
-}
-
-#[tactic(auto, unfolding(crate::specs::Transcript::code_words))]
-fn put_code(out: &mut Bytes, code: u16) -> Result<(), NoMemory>
-    ensures { OnOk result (out.new ≡ out.old ++ code_words code) }
-{
-    if code == 0 {
-        return out.extend(Fixed::Done.text());
-    }
-    out.extend(Fixed::Error.text())?;
-    put_decimal(out, u64::from(code))
-}
-
-/// Appends `ok` or an error's code, and counters, each behind a space.
-#[tactic(auto, unfolding(crate::specs::Transcript::decided_words))]
-pub(crate) fn put_decided(
-    out: &mut Bytes,
-    code: u16,
-    counters: &[(u32, u64)],
-) -> Result<(), NoMemory>
-    ensures { OnOk result (out.new ≡ out.old ++ decided_words code counters.now) }
-{
-    put_code(out, code)?;
-    put_counters(out, counters)
-}
-
-#[tactic(auto, unfolding(crate::specs::Transcript::found_word))]
-fn put_found(out: &mut Bytes, stored: &StoredData) -> Result<(), NoMemory>
-    ensures { OnOk result (out.new ≡ out.old ++ found_word stored.now) }
-{
-    out.extend(b" ")?;
-    put_stored(out, stored)
-}
-
-fn put_all_found(out: &mut Bytes, values: &[StoredData]) -> Result<(), NoMemory>
-    ensures { OnOk result (out.new ≡ out.old ++ flat_map found_word values.now) }
-{
-    for stored in values {
-        put_found(out, stored)?;
-    }
-    Ok(())
-}
-
-// Appends kind=ID/GEN and the values that were found behind a space.
-#[tactic(auto, unfolding(crate::specs::Transcript::found_kind))]
-fn put_found_kind(out: &mut Bytes, kind: &StoreKind) -> Result<(), NoMemory>
-    ensures { OnOk result (out.new ≡ out.old ++ found_kind kind.now) }
-{
-    out.extend(b" ")?;
-    out.extend(Fixed::Group.text())?;
-    put_decimal(out, u64::from(kind.kind))?;
-    out.extend(b"/")?;
-    put_decimal(out, kind.generation)?;
-    match &kind.values {
-        KindValues::Known(values) => put_all_found(out, values.as_slice()),
-    }
-}
-
-fn put_found_kinds(out: &mut Bytes, kinds: &[StoreKind]) -> Result<(), NoMemory>
-    ensures { OnOk result (out.new ≡ out.old ++ flat_map found_kind kinds.now) }
-{
-    for kind in kinds {
-        put_found_kind(out, kind)?;
-    }
-    Ok(())
-}
-
-#[tactic(auto, unfolding(crate::specs::Transcript::verdict_words))]
-fn put_verdict(out: &mut Bytes, verdict: &FetchVerdict) -> Result<(), NoMemory>
-    ensures { OnOk result (out.new ≡ out.old ++ verdict_words verdict.now) }
-{
-    match verdict {
-        FetchVerdict::Values(kinds) => put_found_kinds(out, kinds.as_slice()),
-        FetchVerdict::Refused(code) => put_code(out, *code),
-    }
-}
+use storage_model::{FetchVerdict, Refusal, StoreVerdict};
+use text_words::{all_or_nothing, put_decimal, put_hex, put_transaction};
 
 /// An answer as a line tells it.
 #[derive(Debug, Drop)]
@@ -115,25 +22,125 @@ pub enum Told {
     Store(StoreVerdict),
     /// The answer to a Fetch.
     Fetch(FetchVerdict),
+    /// An error.
+    Refused(Refusal),
+    /// A joiner is admitted.
+    Joined,
 }
 
-/// Appends an answer, each word behind a space.
-pub(crate) fn put_answer(out: &mut Bytes, answer: &Told) -> Result<(), NoMemory>
-    ensures { OnOk result (out.new ≡ out.old ++ answer_words (answer_of answer.now)) }
+#[tactic(auto, unfolding(crate::specs::Words::counter_text))]
+fn put_counter(out: &mut Bytes, counter: (u32, u64)) -> Result<(), NoMemory>
+    ensures { AppendedSome out.old out.new (counter_text counter) result }
 {
-    match answer {
-        Told::Store(verdict) => put_decided(out, verdict.code, verdict.counters.as_slice()),
-        Told::Fetch(verdict) => put_verdict(out, verdict),
+    put_decimal(out, u64::from(counter.0))?;
+    out.extend(b":")?;
+    put_decimal(out, counter.1)
+}
+
+#[tactic(auto, unfolding(text_words::specs::Lines::spaced_by))]
+fn put_next_counter(out: &mut Bytes, counter: (u32, u64)) -> Result<(), NoMemory>
+    ensures { AppendedSome out.old out.new (spaced_by counter_text counter) result }
+{
+    out.extend(b" ")?;
+    put_counter(out, counter)
+}
+
+fn put_counters(out: &mut Bytes, counters: &[(u32, u64)]) -> Result<(), NoMemory>
+    ensures { AppendedSome out.old out.new (flat_map (spaced_by counter_text) counters.now) result }
+{
+    for counter in counters {
+        put_next_counter(out, *counter)?;
+    }
+    Ok(())
+}
+
+#[tactic(auto, unfolding(crate::specs::Transcript::code_text))]
+fn put_code(out: &mut Bytes, code: u16) -> Result<(), NoMemory>
+    ensures { AppendedSome out.old out.new (code_text code) result }
+{
+    if code == 0 {
+        return out.extend(b" ok");
+    }
+    out.extend(b" error")?;
+    out.extend(b" ")?;
+    put_decimal(out, u64::from(code))
+}
+
+fn put_decided(out: &mut Bytes, code: u16, counters: &[(u32, u64)]) -> Result<(), NoMemory>
+    ensures { AppendedSome out.old out.new (code_text code
+        ++ flat_map (spaced_by counter_text) counters.now) result }
+{
+    put_code(out, code)?;
+    put_counters(out, counters)
+}
+
+fn put_raw(out: &mut Bytes, bytes: &Bytes) -> Result<(), NoMemory>
+    ensures { AppendedSome out.old out.new (spaced (codes "?" ++ encode_lower bytes.now)) result }
+{
+    out.extend(b" ")?;
+    out.extend(b"?")?;
+    put_hex(out, bytes.as_slice())
+}
+
+// Appends kind=ID/GEN and the values that were found.
+#[tactic(auto, unfolding(crate::specs::Transcript::found_kind))]
+fn put_found_kind(out: &mut Bytes, kind: &StoreKind) -> Result<(), NoMemory>
+    ensures { AppendedSome out.old out.new (found_kind kind.now) result }
+{
+    put_head(out, kind.kind, kind.generation)?;
+    match &kind.values {
+        KindValues::Known(values) => put_all_stored(out, values.as_slice()),
+        KindValues::Raw(bytes) => put_raw(out, bytes),
     }
 }
 
-/// Appends `answer ID ANSWER`: the client has the answer to its request.
-#[tactic(auto, unfolding(crate::specs::Transcript::answer_line))]
-pub fn put_answer_line(out: &mut Bytes, id: u64, answer: &Told) -> Result<(), NoMemory>
-    ensures { OnOk result (out.new ≡ out.old ++ ended (answer_line id (answer_of answer.now))) }
+#[tactic(auto, unfolding(text_words::specs::Lines::spaced_by))]
+fn put_next_kind(out: &mut Bytes, kind: &StoreKind) -> Result<(), NoMemory>
+    ensures { AppendedSome out.old out.new (spaced_by found_kind kind.now) result }
 {
-    out.extend(Fixed::Answer.text())?;
+    out.extend(b" ")?;
+    put_found_kind(out, kind)
+}
+
+fn put_found_kinds(out: &mut Bytes, kinds: &[StoreKind]) -> Result<(), NoMemory>
+    ensures { AppendedSome out.old out.new (flat_map (spaced_by found_kind) kinds.now) result }
+{
+    for kind in kinds {
+        put_next_kind(out, kind)?;
+    }
+    Ok(())
+}
+
+/// Appends ANSWER, each word behind a space.
+#[tactic(auto, unfolding(crate::specs::Transcript::answer_text))]
+pub fn put_answer(out: &mut Bytes, answer: &Told) -> Result<(), NoMemory>
+    ensures { AppendedSome out.old out.new (answer_text (answer_of answer.now)) result }
+{
+    match answer {
+        Told::Store(verdict) => put_decided(out, verdict.code, verdict.counters.as_slice()),
+        Told::Fetch(FetchVerdict::Values(kinds)) => put_found_kinds(out, kinds.as_slice()),
+        Told::Fetch(FetchVerdict::Refused(cause)) | Told::Refused(cause) => {
+            put_decided(out, cause.code(), &[])
+        }
+        Told::Joined => out.extend(b" joined"),
+    }
+}
+
+#[tactic(auto, unfolding(crate::specs::Transcript::answer_line))]
+fn put_answer_words(out: &mut Bytes, id: u64, answer: &Told) -> Result<(), NoMemory>
+    ensures { AppendedSome out.old out.new (ended (answer_line id (answer_of answer.now))) result }
+{
+    out.extend(b"answer ")?;
     put_transaction(out, id)?;
     put_answer(out, answer)?;
     out.extend(b"\n")
+}
+
+/// Appends `answer H.L ANSWER`: the client has the answer to its request.
+pub fn put_answer_line(out: &mut Bytes, id: u64, answer: &Told) -> Result<(), NoMemory>
+    ensures { Appended out.old out.new (ended (answer_line id (answer_of answer.now))) result }
+{
+    let before = out.len();
+    let appended = put_answer_words(out, id, answer);
+    all_or_nothing(out, before, appended)
 }

@@ -1,5 +1,5 @@
-use Rattle.forwarding_header.proofs.DestinationLaw.{destination_laid}
-use Rattle.forwarding_header.proofs.OptionLaw.{option_laid}
+use Rattle.forwarding_header.specs.Laws.Destinations.{destination_laid}
+use Rattle.forwarding_header.specs.Laws.Options.{option_laid}
 use Rattle.forwarding_header.proofs.decode.entries_are_layouts.Goals as goal
 
 pub returns : goal.returns

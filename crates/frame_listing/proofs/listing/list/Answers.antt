@@ -14,9 +14,9 @@ overflow_add-frames c = omega (arith, c.requires, (listed_within c.args.stream.n
 pub frames-smaller : goal.frames-smaller
 frames-smaller c =
     let added = c.in-Ok.ensures in
-    omega (arith, fewer_left added.0 c.frames.rest.now c.in-Ok.len added.4 added.5, ap length c.split_at.ensures.back)
+    omega (arith, fewer_left added.0 c.frames.rest.now c.in-Ok.len added.2 added.3, ap length c.split_at.ensures.back)
 
 pub frames-preserved : goal.frames-preserved
 frames-preserved c =
     let added = c.in-Ok.ensures in
-    rw c.split_at.ensures.back (Listed-more c.args.stream.now c.frames.rest.now c.frames.text c.put_front.new.out c.frames.frames c.in-Ok.len c.frames.invariant added.0 added.1 added.2 added.3 added.5 added.6)
+    rw c.split_at.ensures.back (Listed-more c.args.stream.now c.frames.rest.now c.frames.text c.put_front.new.out c.frames.frames c.in-Ok.len c.frames.invariant added.0 added.1 added.3 added.4)

@@ -1,7 +1,28 @@
-use Rattle.overlay_command.proofs.Tops.{long_told}
+use Rattle.std.proofs.Common.{refl}
+use Rattle.text_words.specs.Lines.{ended}
+use Rattle.overlay_command.specs.declared.status.Status.TheVariants.{Usage, TooLong}
+use Rattle.overlay_command.specs.Top.{Outside, usage_line, too_long_line}
+use Rattle.overlay_command.proofs.Tops.{ends_told, ends_input}
 use Rattle.overlay_command.proofs.command.overlay.Goals as goal
+
+pub returns-in_default-clause-ends : goal.returns-in_default-clause-ends
+returns-in_default-clause-ends g c =
+    let before : Outside = record { source = g.S.Source.view c.args.source.now; sink = g.K.Sink.view c.args.sink.now } in
+    let after : Outside = record { source = g.S.Source.view c.args.source.now; sink = g.K.Sink.view c.tell.new.sink } in
+    let none = rw c.as_slice.ensures.value at (c.in_default.ensures.none refl) in
+    rw c.of.ensures (ends_told c.args.words.now.items before after Usage (ended usage_line) c.tell.result (none, refl, refl) (rw c.usage_line.ensures at c.tell.ensures.lines) c.tell.ensures.status)
+
+pub returns-in-Ok-clause-ends : goal.returns-in-Ok-clause-ends
+returns-in-Ok-clause-ends g c =
+    let before : Outside = record { source = g.S.Source.view c.args.source.now; sink = g.K.Sink.view c.args.sink.now } in
+    let after : Outside = record { source = g.S.Source.view c.read_all.new.source; sink = g.K.Sink.view c.answer.new.sink } in
+    let has = rw c.as_slice.ensures.value at c.in-Some.ensures.some in
+    rw c.of-in-Ok.ensures (ends_input c.args.words.now.items before after c.in-Some.form c.in-Ok.input c.answer.result has c.in-Ok.ensures (rw c.as_slice-in-Ok.ensures at c.answer.ensures))
 
 pub returns-in-Err-TooLong-clause-ends : goal.returns-in-Err-TooLong-clause-ends
 returns-in-Err-TooLong-clause-ends g c =
-    let stopped = rw c.in-Err-TooLong.field-0-is at c.in-Err-TooLong.ensures.stopped in
-    long_told c.in-Some.form c.args.words.now.items stopped.0 (g.S.Source.left c.args.source.now) (g.S.Source.left c.read_all.new.source) (g.K.Sink.written c.args.sink.now) (g.K.Sink.written c.refuse-in-Err-TooLong.new.sink) c.refuse-in-Err-TooLong.result (rw c.as_slice.ensures.value at c.in-Some.ensures.some) stopped.1 stopped.2 c.refuse-in-Err-TooLong.ensures.ends
+    let before : Outside = record { source = g.S.Source.view c.args.source.now; sink = g.K.Sink.view c.args.sink.now } in
+    let after : Outside = record { source = g.S.Source.view c.read_all.new.source; sink = g.K.Sink.view c.tell-in-Err-TooLong.new.sink } in
+    let has = rw c.as_slice.ensures.value at c.in-Some.ensures.some in
+    let long = rw c.in-Err-TooLong.field-0-is at c.in-Err-TooLong.ensures in
+    rw c.of-in-Err-TooLong.ensures (ends_told c.args.words.now.items before after TooLong (ended too_long_line) c.tell-in-Err-TooLong.result ((c.in-Some.form, has), long, refl) (rw c.too_long_line.ensures at c.tell-in-Err-TooLong.ensures.lines) c.tell-in-Err-TooLong.ensures.status)

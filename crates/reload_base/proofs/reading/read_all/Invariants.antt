@@ -1,12 +1,12 @@
-use Rattle.std.proofs.Common.{◌+◌, ◌-◌, ◌≤◌, length}
-use Rattle.std.specs.Io.KnownBytes.{Consumes}
+use Rattle.std.proofs.Common.{◌≡◌, ◌+◌, ◌-◌, ◌≤◌, length}
+use Rattle.reload_base.specs.Outside.{Takes}
 use Rattle.reload_base.proofs.reading.read_all.Given as goal
 
 abbrev pub invariant-pieces : goal.invariant-pieces
 invariant-pieces g l = record {
   short : length l.text ≤ l.most;
-  taken : Consumes (g.S.Source.left l.fn.source) (g.S.Source.left l.source) l.text;
-  later : g.S.Source.faults l.fn.source ≤ g.S.Source.faults l.source;
+  taken : Takes (g.S.Source.view l.fn.source) (g.S.Source.view l.source) l.text;
+  buffer : length l.buffer ≡ 4096;
 }
 
 abbrev pub decreases-pieces : goal.decreases-pieces

@@ -1,4 +1,4 @@
-use Rattle.storage_model.proofs.Once.{once}
+use Rattle.storage_model.proofs.Whole.{once}
 use Rattle.storage_model.proofs.laws.stores_act_once.Goals as goal
 
 pub returns : goal.returns

@@ -1,12 +1,12 @@
 use Rattle.std.proofs.Common.{◌≡◌, ◌+◌, ◌++◌, length, ap, ◌∙◌, append_assoc, length-append, arith}
 use Rattle.std.proofs.lemmas.Result.{on_ok_weaker}
 use Rattle.wire_core.specs.Spelling.{number, vector}
-use Rattle.wire_core.proofs.Bytes.{length-number}
+use Rattle.wire_core.specs.Laws.Bytes.{length-number}
 use Rattle.wire_core.proofs.signature.put_hash.Goals as goal
 
 -- the part's length is two more than the hash's
-pub returns : goal.returns
-returns c =
+pub returns-clause-ok : goal.returns-clause-ok
+returns-clause-ok c =
     let alg = number 1 c.args.alg in
     let hash = vector 1 c.args.hash.now in
     let n = length c.args.hash.now + 2 in
@@ -16,4 +16,4 @@ returns c =
     ∙ append_assoc ((c.args.out.now ++ number 1 c.args.code) ++ number 2 n) alg hash
     ∙ append_assoc (c.args.out.now ++ number 1 c.args.code) (number 2 n) (alg ++ hash)
     ∙ append_assoc c.args.out.now (number 1 c.args.code) (number 2 n ++ (alg ++ hash))
-    ∙ ap (λ m. c.args.out.now ++ (number 1 c.args.code ++ (number 2 m ++ (alg ++ hash)))) len) c.put_bytes.ensures
+    ∙ ap (λ m. c.args.out.now ++ (number 1 c.args.code ++ (number 2 m ++ (alg ++ hash)))) len) c.put_bytes.ensures.ok

@@ -5,9 +5,9 @@ use Rattle.overlay_command.proofs.desk.Desk.drain.Given as goal
 
 abbrev pub invariant-times : goal.invariant-times
 invariant-times l =
-    IsSteady l.self × (l.self.decisions + l.left < 2 ^ 62) × (l.self.clock < 2 ^ 62)
-    × ((drained l.s l.left l.self).desk ≡ (drained l.s l.n l.fn.self).desk)
-    × (l.out ++ (drained l.s l.left l.self).text ≡ l.fn.out ++ (drained l.s l.n l.fn.self).text)
+    IsSteady l.scenario.config l.self × (l.self.decisions + l.left < 2 ^ 62) × (l.self.clock < 2 ^ 62)
+    × ((drained l.scenario l.left l.self).desk ≡ (drained l.scenario l.n l.fn.self).desk)
+    × (l.out ++ (drained l.scenario l.left l.self).text ≡ l.fn.out ++ (drained l.scenario l.n l.fn.self).text)
 
 abbrev pub decreases-times : goal.decreases-times
 decreases-times l = l.left

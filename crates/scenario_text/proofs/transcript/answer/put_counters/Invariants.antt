@@ -1,7 +1,8 @@
 use Rattle.std.proofs.Common.{◌≡◌, ◌++◌, take}
 use Rattle.std.specs.List.{flat_map}
-use Rattle.scenario_text.specs.Transcript.{counter_word}
+use Rattle.text_words.specs.Lines.{spaced_by}
+use Rattle.scenario_text.specs.Words.{counter_text}
 use Rattle.scenario_text.proofs.transcript.answer.put_counters.Given as goal
 
 abbrev pub invariant-loop-counter : goal.invariant-loop-counter
-invariant-loop-counter l = l.out ≡ l.initial.out ++ flat_map counter_word (take l.counter-index l.counters)
+invariant-loop-counter l = l.out ≡ l.fn.out ++ flat_map (spaced_by counter_text) (take l.counter-index l.counters)

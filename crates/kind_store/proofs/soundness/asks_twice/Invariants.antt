@@ -1,0 +1,12 @@
+use Rattle.std.proofs.Common.{◌≡◌, length}
+use Rattle.std.specs.Prelude.{◌==◌}
+use Rattle.data_models.specs.declared.fetched.Specifier.{Specifier}
+use Rattle.storage_model.specs.declared.request.AskedKind.{AskedKind}
+use Rattle.storage_model.specs.Requests.{has_twice, is_same_slot, placed}
+use Rattle.kind_store.proofs.soundness.asks_twice.Given as goal
+
+abbrev pub invariant-loop-first : goal.invariant-loop-first
+invariant-loop-first l = has_twice (λ (a b : Specifier). a.kind == b.kind) l.rest ≡ has_twice (λ (a b : Specifier). a.kind == b.kind) l.specifiers
+
+abbrev pub decreases-loop-first : goal.decreases-loop-first
+decreases-loop-first l = length l.rest

@@ -1,0 +1,128 @@
+//! What a peer stores for one resource.
+
+ghost use Rattle.std.specs.Prelude.{◌≡◌, ◌≤◌, ◌<◌, ◌^◌, [], ◌∷◌, ◌++◌, length, is_some, unwrap_or, IfOk, OnOk, OnErr};
+ghost use Rattle.storage_model.specs.declared.limits.TheConstants.{MAX_WEIGHT, MAX_KEPT};
+ghost use Rattle.storage_model.specs.Records.{empty_record, weight};
+ghost use Rattle.storage_model.specs.Decisions.{with_joined};
+
+use crate::kinds::Kinds;
+use reload_base::{List, NoMemory, TryCopy};
+use std::alloc::Global;
+use std::marker::Model;
+use storage_model::Kept;
+
+/// What a peer stores for one resource. Contracts see the record.
+#[derive(Debug, Drop)]
+pub struct Record {
+    pub(crate) turn: u64,
+    pub(crate) joined: bool,
+    pub(crate) kinds: Kinds,
+    pub(crate) kept: List<Kept>,
+}
+
+impl Model for Record {
+    ghost use Rattle.std.specs.Prelude.{◌≤◌};
+    ghost use Rattle.storage_model.specs.declared.limits.TheConstants.{MAX_WEIGHT};
+    ghost use Rattle.storage_model.specs.Records as records;
+    ghost use Rattle.storage_model.specs.Records.{weight};
+    ghost use Rattle.kind_store.specs.Codes.{record_code};
+
+    ghost Value = { records.Record };
+
+    ghost coded = { record_code };
+
+    ghost view = { λ r. record
+        { turn = r.turn; joined = r.joined; kinds = r.kinds; kept = r.kept } };
+
+    ghost invariant = { λ r. weight r.kinds ≤ MAX_WEIGHT };
+}
+
+impl Record {
+    /// The record of a resource that nobody wrote. It takes no memory yet.
+    pub(crate) fn empty(alloc: Global) -> Record
+        ensures { result ≡ empty_record }
+    {
+        Record {
+            turn: 0,
+            joined: false,
+            kinds: Kinds::new(alloc),
+            kept: List::new(alloc),
+        }
+    }
+
+    /// A record without kinds and kept answers. It takes no memory yet.
+    pub fn new(alloc: Global, turn: u64, joined: bool) -> Record
+        ensures { result ≡ record empty_record { turn = turn; joined = joined } }
+    {
+        let mut given = Record::empty(alloc);
+        given.turn = turn;
+        given.joined = joined;
+        given
+    }
+
+    /// How often the record changed.
+    pub fn turn(&self) -> u64
+        ensures { result ≡ self.now.turn }
+    {
+        self.turn
+    }
+
+    /// Whether a peer joined with this resource as its Node-ID.
+    pub fn joined(&self) -> bool
+        ensures { result ≡ self.now.joined }
+    {
+        self.joined
+    }
+
+    /// Adds an answer behind those that are kept, of which there are fewer than [`MAX_KEPT`]. After
+    /// `NoMemory` the record is as before.
+    pub fn push_kept(&mut self, answer: Kept) -> Result<(), NoMemory>
+        requires { length self.old.kept < MAX_KEPT }
+        ensures ok { OnOk result (self.new
+            ≡ record self.old { kept = self.old.kept ++ answer ∷ [] }) }
+        ensures err { OnErr result (self.new ≡ self.old) }
+    {
+        self.kept.push(answer)
+    }
+
+    /// The answers that are kept, the oldest first.
+    pub fn kept(&self, alloc: Global) -> Result<List<Kept>, NoMemory>
+        ensures { IfOk result (λ all. all ≡ self.now.kept) }
+    {
+        self.kept.copy(alloc)
+    }
+
+    /// What the kinds weigh, in this profile's bytes: at most `MAX_WEIGHT`.
+    pub(crate) fn weight(&self) -> u64
+        ensures value { result ≡ weight self.now.kinds }
+        ensures small { result ≤ MAX_WEIGHT }
+    {
+        self.kinds.weight() as u64
+    }
+
+    /// Notes that a peer joined: true the first time, when the turn rises.
+    #[tactic(auto, unfolding(storage_model::specs::Decisions::with_joined))]
+    pub(crate) fn set_joined(&mut self) -> bool
+        requires { self.old.turn < 2 ^ 63 }
+        ensures first { result ≡ is_some (with_joined self.old) }
+        ensures record { self.new ≡ unwrap_or (with_joined self.old) self.old }
+    {
+        if self.joined {
+            return false;
+        }
+        self.joined = true;
+        self.turn += 1;
+        true
+    }
+}
+
+impl TryCopy for Record {
+    fn copy(&self, alloc: Global) -> Result<Record, NoMemory> {
+        Ok(Record {
+            turn: self.turn,
+            joined: self.joined,
+            kinds: self.kinds.copy(alloc)?,
+            kept: self.kept.copy(alloc)?,
+        })
+    }
+}

@@ -1,0 +1,4 @@
+pub mod DiagRequests
+pub mod DiagResponses
+pub mod Laws
+pub mod Tracks

@@ -1,0 +1,4 @@
+pub mod Kept
+pub mod Kinds
+pub mod Laws
+pub mod Notes

@@ -1,0 +1,11 @@
+use Rattle.std.proofs.Common.{◌≡◌, length}
+use Rattle.text_words.specs.Listed.{range_of}
+use Rattle.text_words.specs.Steps.{each_of}
+use Rattle.text_words.proofs.CodecLaws.{more_of}
+use Rattle.text_words.proofs.listed.ranges_in.Given as goal
+
+abbrev pub invariant-pieces : goal.invariant-pieces
+invariant-pieces l = more_of l.ranges (each_of range_of l.pieces) ≡ each_of range_of l.fn.pieces
+
+abbrev pub decreases-pieces : goal.decreases-pieces
+decreases-pieces l = length l.pieces

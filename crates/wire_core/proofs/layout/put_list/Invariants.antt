@@ -1,6 +1,0 @@
-use Rattle.std.proofs.Common.{◌≡◌, ◌++◌, take}
-use Rattle.std.specs.List.{flat_map}
-use Rattle.wire_core.proofs.layout.put_list.Given as goal
-
-abbrev pub invariant-loop-entry : goal.invariant-loop-entry
-invariant-loop-entry g l = l.out ≡ l.fn.out ++ flat_map g.T.Layout.spelling (take l.entry-index l.entry-items)
