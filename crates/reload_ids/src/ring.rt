@@ -1,7 +1,7 @@
 //! Ways and intervals on the ring (RFC 6940, section 10.1).
 
-ghost use Rattle.std.specs.Prelude.{◌≡◌, ◌↔◌, IsTrue};
-ghost use Rattle.reload_ids.specs.Ring.{distance, Between, ppb};
+ghost use Rattle.std.specs.Prelude.{◌≡◌};
+ghost use Rattle.reload_ids.specs.Ring.{distance, between, ppb};
 
 /// How far it is from `a` on to `b`, in the direction of rising ids: b - a modulo 2^128.
 pub fn distance(a: u128, b: u128) -> u128
@@ -13,7 +13,7 @@ pub fn distance(a: u128, b: u128) -> u128
 /// Whether `k` comes after `a`, up to and including `b`. Where `a` is `b` the interval is the whole
 /// ring.
 pub fn between(a: u128, k: u128, b: u128) -> bool
-    ensures { IsTrue result ↔ Between a k b }
+    ensures { result ≡ between a k b }
 {
     let way = distance(a, k);
     a == b || (0 < way && way <= distance(a, b))
