@@ -80,11 +80,11 @@ impl<T> List<T> {
         self.items.as_slice().get(index)
     }
 
-    /// Finds memory for `n` more items. The list stays as it is.
+    /// Finds memory for `n` more items, and for no others. The list stays as it is.
     pub fn reserve(&mut self, n: usize) -> Result<(), NoMemory>
         ensures { self.new ≡ self.old }
     {
-        self.items.reserve(n)?;
+        self.items.reserve_exact(n)?;
         Ok(())
     }
 
@@ -172,11 +172,6 @@ impl List<u8> {
 
 impl<T: TryCopy + Drop> TryCopy for List<T> {
     fn copy(&self, alloc: Global) -> Result<List<T>, NoMemory> {
-        let mut copy = List::new(alloc);
-        copy.reserve(self.len())?;
-        for item in self.as_slice() {
-            copy.push(item.copy(alloc)?)?;
-        }
-        Ok(copy)
+        T::copies(self.as_slice(), alloc)
     }
 }
