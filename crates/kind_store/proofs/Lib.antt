@@ -1,15 +1,4 @@
-pub mod Trees
-pub mod KeyMaps
-pub mod NumberMaps
-pub mod Finite
-pub mod SlotMaps
-pub mod KindMaps
-pub mod Undos
-pub mod Placed
 pub mod Order
-pub mod Sweeps
-pub mod PutKinds
-pub mod Lookups
 pub mod Shelves
 pub mod Gathers
 pub mod Gives

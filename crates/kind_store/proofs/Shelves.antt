@@ -16,7 +16,7 @@ use Rattle.storage_model.specs.Refusals.{first_cause, error_code}
 use Rattle.kind_store.specs.Steps.{answer}
 use Rattle.storage_model.specs.Verdict.{Outcome, outcome_of, decided, repeated, refused, accepted, noted, is_traceless, told, store_causes}
 use Rattle.storage_model.specs.Decisions.{changed, with_joined}
-use Rattle.kind_store.proofs.Finite.{get-insert_there, insert-insert, insert-same}
+use Rattle.ordered_tables.proofs.Finite.{get-insert_there, insert-insert, insert-same}
 
 -- a record that is there, or the empty one
 pub record_there : (m : Map) (r : ℕ) (x : Record) → Some x ≡ get m r → x ≡ record_in m r

@@ -1,9 +1,4 @@
 pub mod Codes
-pub mod Seen
-pub mod Light
-pub mod Undo
-pub mod Log
 pub mod Steps
-pub mod Sweep
 pub mod Gathered
 pub mod Written

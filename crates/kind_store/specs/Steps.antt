@@ -18,23 +18,11 @@ use Rattle.storage_model.specs.Refusals.{Cause, first_cause, sequence_causes}
 use Rattle.storage_model.specs.Requests.{puts, is_end}
 use Rattle.storage_model.specs.Puts.{ValuesAt, slot_of}
 use Rattle.storage_model.specs.Verdict.{is_unknown, is_forbidden, asks_other_generation, is_too_old, is_too_large, counters_in}
-use Rattle.kind_store.specs.Undo.{slot_put}
 
 -- a turn and generation counters that can still rise
 pub record IsCounted (x : Record) : Type 0 where
   pub turn : x.turn < 2 ^ 63
   pub generations : (kind : ℕ) → (kind_in x.kinds kind).generation < 2 ^ 63
-
--- values put into their slots of one kind, each with the same counters of the kind
-unfoldable pub put_into : ℕ → ℕ → ℕ × ℕ → Kinds → ValuesAt → Kinds
-put_into now id counters kinds values =
-    fold (λ kinds v. slot_put kinds id counters.0 counters.1 v.0 (slot_of now v.1)) kinds values
-
--- a value put into its slot, where it has one
-unfoldable pub placed_on : ℕ → ℕ → ℕ × ℕ → Kinds → Value → Kinds
-placed_on now id counters kinds v =
-    if is_end v.stored.key then kinds
-    else slot_put kinds id counters.0 counters.1 (key_of v.stored.key) (slot_of now v)
 
 -- why a Store is refused for what a record has already, in this order
 unfoldable pub early_causes : Config → ℕ → Kinds → StoreAsked → List Cause

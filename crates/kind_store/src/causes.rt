@@ -9,11 +9,10 @@ ghost use Rattle.access_policy.specs.Policies.{permits};
 ghost use Rattle.storage_model.specs.Verdict as verdict;
 ghost use Rattle.kind_store.specs.Steps.{early_causes};
 
-use crate::asked::values_in;
 use crate::floors::{any_old, any_stale};
-use crate::kinds::Kinds;
 use access_policy::permits;
 use data_models::{Config, KindDef, SlotKey};
+use record_state::{Kinds, values_in};
 use reload_ids::ResourceId;
 use security_block::About;
 use storage_model::{AskedKind, Refusal, StoreAsked, Value};

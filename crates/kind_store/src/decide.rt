@@ -1,10 +1,9 @@
 //! A decision on a Store, with the record that the resource has (RFC 6940, section 7.4.1).
 
 ghost use Rattle.std.specs.Prelude.{◌≡◌, ◌<◌, ◌^◌, ℕ, true, Some, None, IsSome, unwrap_or, if◌then◌else◌, IfOk, OnOk, OnErr};
-ghost use Rattle.std.specs.Option.{option_copied};
 ghost use Rattle.reload_base.specs.Lists.{pushed_within};
 ghost use Rattle.storage_model.specs.declared.limits.TheConstants.{MAX_KEPT};
-ghost use Rattle.storage_model.specs.Records.{kind_in, kept_for};
+ghost use Rattle.storage_model.specs.Records.{kind_in};
 ghost use Rattle.storage_model.specs.Refusals.{first_cause};
 ghost use Rattle.storage_model.specs.Requests.{is_sound};
 ghost use Rattle.storage_model.specs.Puts.{kinds_after};
@@ -13,20 +12,17 @@ ghost use Rattle.storage_model.specs.Verdict.{outcome_of};
 ghost use Rattle.kind_store.specs.Steps as steps;
 ghost use Rattle.kind_store.specs.Steps.{IsCounted};
 
-use crate::asked::any_puts;
 use crate::causes::{early_cause, sequence_cause};
-use crate::counters::{counters_in, counters_told};
-use crate::draft::Draft;
-use crate::kinds::Kinds;
 use crate::limits;
-use crate::puts::put_kinds;
 use crate::record::Record;
-use crate::sweep::sweep;
 use data_models::Config;
+use record_state::{
+    Draft, KeptAnswers, Kinds, any_puts, counters_in, counters_told, put_kinds, sweep,
+};
 use reload_base::{List, NoMemory, TryCopy};
 use reload_ids::{NodeId, ResourceId};
 use std::alloc::Global;
-use storage_model::{Kept, MAX_KEPT, Refusal, StoreAsked, StoreVerdict};
+use storage_model::{Kept, Refusal, StoreAsked, StoreVerdict};
 
 impl Record {
     /// Decides on a Store, at a clock in milliseconds. After `NoMemory` the record is as before.
@@ -52,7 +48,7 @@ impl Record {
             self.old) }
         ensures err { OnErr result (self.new ≡ self.old) }
     {
-        if let Some(kept) = answer_to(self.kept.as_slice(), origin.0, id) {
+        if let Some(kept) = self.kept.answer_to(origin.0, id) {
             return repeated(alloc, kept);
         }
         self.decide_anew(alloc, config, now, resource, origin, id, request)
@@ -228,7 +224,7 @@ impl Record {
 #[tactic(auto, unfolding(storage_model::specs::Puts::kinds_after))]
 fn changed(
     draft: &mut Draft,
-    kept: &mut List<Kept>,
+    kept: &mut KeptAnswers,
     alloc: Global,
     config: &Config,
     now: u64,
@@ -260,7 +256,7 @@ fn changed(
 #[tactic(auto, unfolding(crate::specs::Steps::settled, crate::specs::Steps::settled_kept))]
 fn settled(
     after: &Kinds,
-    kept: &mut List<Kept>,
+    kept: &mut KeptAnswers,
     alloc: Global,
     config: &Config,
     origin: NodeId,
@@ -313,7 +309,7 @@ fn is_traceless(cause: Refusal) -> bool
 
 /// Keeps an answer in place of the oldest of [`MAX_KEPT`]. After `NoMemory` all are as before.
 fn keep(
-    kept: &mut List<Kept>,
+    kept: &mut KeptAnswers,
     alloc: Global,
     origin: NodeId,
     id: u64,
@@ -330,16 +326,7 @@ fn keep(
         code,
         counters: counters.copy(alloc)?,
     };
-    kept.push_within(MAX_KEPT, answer)
-}
-
-/// The answer that is kept for a request.
-#[tactic(auto, unfolding(storage_model::specs::Records::kept_for))]
-fn answer_to(kept: &[Kept], origin: u128, id: u64) -> Option<&Kept>
-    ensures { option_copied result ≡ kept_for kept.now origin id }
-{
-    kept.iter()
-        .find(|answer| answer.origin.0 == origin && answer.id == id)
+    kept.push(answer)
 }
 
 /// The answer that was kept, once more.

@@ -10,9 +10,8 @@ ghost use Rattle.kind_store.specs.Gathered.{with_keys, gathered, with_kind};
 
 use crate::causes::sequence_cause;
 use crate::gathering::{ENOUGH, Gathering};
-use crate::kind::KindState;
-use crate::kinds::Kinds;
 use data_models::{Config, KindValues, Specifier, StoreKind};
+use record_state::{KindState, Kinds};
 use reload_base::{List, NoMemory};
 use std::alloc::Global;
 use storage_model::{FetchAsked, FetchVerdict, MAX_ANSWER, Refusal};

@@ -7,9 +7,8 @@ ghost use Rattle.storage_model.specs.Records.{kind_in, slot_in};
 ghost use Rattle.storage_model.specs.Requests.{is_end, placed, appended};
 ghost use Rattle.storage_model.specs.Verdict as verdict;
 
-use crate::asked;
-use crate::kinds::Kinds;
 use data_models::SlotKey;
+use record_state::{Kinds, is_end};
 use storage_model::Value;
 
 /// Whether the storage time of a value that has a slot isn't over the floor there.
@@ -31,7 +30,7 @@ fn is_placed_old(kinds: &Kinds, id: u32, value: &Value) -> bool
     ensures { result ≡ (not (is_end value.now.stored.key) && verdict.is_old
         (kind_in kinds.now id).slots value.now) }
 {
-    !asked::is_end(&value.stored.key)
+    !is_end(&value.stored.key)
         && value.stored.storage_time <= floor_of(kinds, id, &value.stored.key)
 }
 
@@ -54,7 +53,7 @@ pub fn any_stale(floor: u64, values: &[Value]) -> bool
 {
     let mut floor = floor;
     for value in values {
-        if asked::is_end(&value.stored.key) {
+        if is_end(&value.stored.key) {
             if value.stored.storage_time <= floor {
                 return true;
             }

@@ -8,8 +8,8 @@ ghost use Rattle.storage_model.specs.Fetches as fetches;
 ghost use Rattle.kind_store.specs.Gathered.{with_key, with_keys, with_range};
 
 use crate::given::{given_for, given_size, is_live};
-use crate::slots::Slots;
 use data_models::{Selector, SlotKey, StoredData};
+use record_state::Slots;
 use reload_base::{Bytes, List, NoMemory, TryCopy};
 use std::alloc::Global;
 use storage_model::MAX_ANSWER;

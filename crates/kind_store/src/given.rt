@@ -6,10 +6,8 @@ ghost use Rattle.data_models.specs.Stored.{key_of, gap, stored_size};
 ghost use Rattle.storage_model.specs.Records as records;
 ghost use Rattle.storage_model.specs.Fetches as fetches;
 
-use crate::key_bytes::key_bytes;
-use crate::slot::SlotState;
-use crate::slots::Slots;
 use data_models::{SlotKey, StoredData};
+use record_state::{SlotState, Slots, key_bytes};
 use reload_base::{NoMemory, TryCopy};
 use std::alloc::Global;
 use storage_model::Held;

@@ -6,9 +6,8 @@ ghost use Rattle.storage_model.specs.Records.{kind_in};
 ghost use Rattle.storage_model.specs.Verdict as verdict;
 ghost use Rattle.kind_store.specs.Steps as steps;
 
-use crate::asked::values_in;
-use crate::kinds::Kinds;
 use data_models::{Config, KindDef, SlotKey};
+use record_state::{Kinds, values_in};
 use storage_model::{AskedKind, StoreAsked, Value};
 
 /// Whether the kinds pass a limit of their own or that of a record.

@@ -4,20 +4,23 @@ ghost use Rattle.std.specs.Prelude.{◌≡◌, ◌≤◌, ◌<◌, ◌^◌, [], 
 ghost use Rattle.storage_model.specs.declared.limits.TheConstants.{MAX_WEIGHT, MAX_KEPT};
 ghost use Rattle.storage_model.specs.Records.{empty_record, weight};
 ghost use Rattle.storage_model.specs.Decisions.{with_joined};
+ghost use Rattle.std.specs.FinMap.{insert};
+ghost use Rattle.record_state.specs.Written.{Follows, kind_written, kind_records};
 
-use crate::kinds::Kinds;
+use record_state::{KeptAnswers, Kinds};
 use reload_base::{List, NoMemory, TryCopy};
 use std::alloc::Global;
 use std::marker::Model;
-use storage_model::Kept;
+use storage_model::{Kept, KindRecord};
 
 /// What a peer stores for one resource. Contracts see the record.
 #[derive(Debug, Drop)]
 pub struct Record {
+    alloc: Global,
     pub(crate) turn: u64,
     pub(crate) joined: bool,
     pub(crate) kinds: Kinds,
-    pub(crate) kept: List<Kept>,
+    pub(crate) kept: KeptAnswers,
 }
 
 impl Model for Record {
@@ -43,10 +46,11 @@ impl Record {
         ensures { result ≡ empty_record }
     {
         Record {
+            alloc,
             turn: 0,
             joined: false,
             kinds: Kinds::new(alloc),
-            kept: List::new(alloc),
+            kept: KeptAnswers::new(alloc),
         }
     }
 
@@ -76,6 +80,7 @@ impl Record {
 
     /// Adds an answer behind those that are kept, of which there are fewer than [`MAX_KEPT`]. After
     /// `NoMemory` the record is as before.
+    #[tactic(auto, using(record_state::proofs::Rings::kept_within))]
     pub fn push_kept(&mut self, answer: Kept) -> Result<(), NoMemory>
         requires { length self.old.kept < MAX_KEPT }
         ensures ok { OnOk result (self.new
@@ -89,7 +94,30 @@ impl Record {
     pub fn kept(&self, alloc: Global) -> Result<List<Kept>, NoMemory>
         ensures { IfOk result (λ all. all ≡ self.now.kept) }
     {
-        self.kept.copy(alloc)
+        self.kept.list(alloc)
+    }
+
+    /// Adds a kind whose id is over those that are there, with its slots by rising key, where the
+    /// record then weighs at most `MAX_WEIGHT`. The values move. After `NoMemory` the record is as
+    /// before.
+    pub fn push_kind(&mut self, kind: KindRecord) -> Result<(), NoMemory>
+        requires follows { Follows self.old.kinds kind }
+        requires light { weight (insert self.old.kinds kind.kind (kind_written kind)) ≤ MAX_WEIGHT }
+        ensures ok { OnOk result (self.new ≡ record self.old
+            { kinds = insert self.old.kinds kind.kind (kind_written kind) }) }
+        ensures listed { OnOk result (
+            kind_records self.new.kinds ≡ kind_records self.old.kinds ++ kind ∷ []) }
+        ensures err { OnErr result (self.new ≡ self.old) }
+    {
+        self.kinds.push(self.alloc, kind)
+    }
+
+    /// The kinds by rising id, each with its slots by rising key: after any calls of `push_kind`,
+    /// what was pushed, in order.
+    pub fn kinds(&self, alloc: Global) -> Result<List<KindRecord>, NoMemory>
+        ensures { IfOk result (λ all. all ≡ kind_records self.now.kinds) }
+    {
+        self.kinds.records(alloc)
     }
 
     /// What the kinds weigh, in this profile's bytes: at most `MAX_WEIGHT`.
@@ -119,6 +147,7 @@ impl Record {
 impl TryCopy for Record {
     fn copy(&self, alloc: Global) -> Result<Record, NoMemory> {
         Ok(Record {
+            alloc,
             turn: self.turn,
             joined: self.joined,
             kinds: self.kinds.copy(alloc)?,

@@ -13,10 +13,10 @@ ghost use Rattle.kind_store.specs.Steps.{IsCounted};
 ghost use Rattle.kind_store.specs.Written.{written};
 
 use crate::fetch::fetch_from;
-use crate::kinds::Kinds;
 use crate::record::Record;
-use crate::resource_table::ResourceTable;
 use data_models::Config;
+use ordered_tables::NumberTable;
+use record_state::Kinds;
 use reload_base::{List, NoMemory, TryCopy};
 use reload_ids::{NodeId, ResourceId};
 use std::alloc::Global;
@@ -27,7 +27,7 @@ use storage_model::{FetchAsked, FetchVerdict, StoreAsked, StoreVerdict};
 #[derive(Debug, Drop)]
 pub struct Shelf {
     alloc: Global,
-    table: ResourceTable<Record>,
+    table: NumberTable<Record>,
 }
 
 impl Model for Shelf {
@@ -51,7 +51,7 @@ impl Shelf {
     {
         Shelf {
             alloc,
-            table: ResourceTable::new(alloc),
+            table: NumberTable::new(alloc),
         }
     }
 

@@ -8,8 +8,8 @@ ghost use Rattle.data_models.specs.Stored.{key_of};
 ghost use Rattle.storage_model.specs.Requests as requests;
 ghost use Rattle.storage_model.specs.Requests.{has_twice, is_same_key, is_same_slot, is_end, placed, values_of};
 
-use crate::asked::{self, values_in};
 use data_models::{Config, DataModel, Selector, SlotKey, Specifier};
+use record_state::{is_end, values_in};
 use storage_model::{AskedKind, FetchAsked, StoreAsked, Value};
 
 /// Whether a Store names no kind twice, and each kind soundly: a single kind has one value, and no
@@ -112,7 +112,7 @@ fn puts_twice(values: &[Value]) -> bool
 {
     let mut rest = values;
     while let Some((first, others)) = rest.split_first() {
-        if !asked::is_end(&first.stored.key) && any_there(&first.stored.key, others) {
+        if !is_end(&first.stored.key) && any_there(&first.stored.key, others) {
             return true;
         }
         rest = others;
@@ -140,7 +140,7 @@ fn is_there(key: &SlotKey, value: &Value) -> bool
     ensures { result ≡ (not (is_end value.now.stored.key) && is_same_key (key_of key.now)
         (key_of value.now.stored.key)) }
 {
-    !asked::is_end(&value.stored.key) && are_same(key, &value.stored.key)
+    !is_end(&value.stored.key) && are_same(key, &value.stored.key)
 }
 
 #[tactic(auto, unfolding(data_models::specs::Stored::key_of))]

@@ -14,7 +14,7 @@ pub use laws::{
     stores_act_once,
 };
 pub use limits::{KIND_WEIGHT, MAX_ANSWER, MAX_KEPT, MAX_WEIGHT, SLOT_WEIGHT};
-pub use record::{Held, Kept};
+pub use record::{Held, Kept, KindRecord, Slot};
 pub use refusal::Refusal;
 pub use request::{Asked, AskedKind, FetchAsked, JoinAsked, StoreAsked, Value};
 pub use verdict::{FetchVerdict, StoreVerdict};

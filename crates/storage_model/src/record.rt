@@ -35,6 +35,30 @@ pub struct Kept {
     pub counters: List<(u32, u64)>,
 }
 
+/// A slot of a record, as records are written down.
+#[derive(Debug, Drop)]
+pub struct Slot {
+    /// The key: no bytes for a single kind, the 4 bytes of an index, or a name.
+    pub key: Bytes,
+    /// The greatest storage time that was ever accepted there, in milliseconds.
+    pub floor: u64,
+    /// The value, where the slot holds one.
+    pub held: Option<Held>,
+}
+
+/// A kind of a record, as records are written down.
+#[derive(Debug, Drop)]
+pub struct KindRecord {
+    /// The Kind-ID.
+    pub kind: u32,
+    /// The generation counter.
+    pub generation: u64,
+    /// The greatest storage time that was ever appended, in milliseconds.
+    pub append_floor: u64,
+    /// The slots, by rising key.
+    pub slots: List<Slot>,
+}
+
 impl TryCopy for Held {
     fn copy(&self, alloc: Global) -> Result<Held, NoMemory> {
         Ok(Held {

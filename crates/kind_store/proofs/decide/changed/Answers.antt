@@ -1,6 +1,6 @@
 use Rattle.std.proofs.Common.{◌≡◌, ◌<◌, ◌^◌, sym, subst}
 use Rattle.storage_model.specs.Records.{Kinds, kind_in}
-use Rattle.kind_store.proofs.PutKinds.{swept_counted}
+use Rattle.record_state.proofs.PutKinds.{swept_counted}
 use Rattle.kind_store.proofs.decide.changed.Goals as goal
 
 pub put_kinds-requires-clause-counted : goal.put_kinds-requires-clause-counted

@@ -1,7 +1,7 @@
 use Rattle.std.proofs.Common.{◌≡◌, ◌∙◌}
 use Rattle.storage_model.specs.Records.{kind_in}
 use Rattle.storage_model.specs.Verdict.{is_old}
-use Rattle.kind_store.proofs.Placed.{any_placed}
+use Rattle.record_state.proofs.Placed.{any_placed}
 use Rattle.kind_store.proofs.floors.any_old.Goals as goal
 
 pub returns : goal.returns

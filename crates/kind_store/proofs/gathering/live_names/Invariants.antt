@@ -1,7 +1,7 @@
 use Rattle.std.proofs.Common.{◌≡◌, ◌++◌, map, filter, is_some}
 use Rattle.storage_model.specs.Records.{unexpired}
 use Rattle.storage_model.specs.Fetches.{live_names}
-use Rattle.kind_store.specs.Seen.{shown}
+use Rattle.ordered_tables.specs.Seen.{shown}
 use Rattle.kind_store.proofs.gathering.live_names.Given as goal
 
 -- with the names that are left, the names are all those whose values aren't expired

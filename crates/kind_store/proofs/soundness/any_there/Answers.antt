@@ -1,7 +1,7 @@
 use Rattle.std.proofs.Common.{◌≡◌, ◌∙◌}
 use Rattle.data_models.specs.Stored.{key_of}
 use Rattle.storage_model.specs.Requests.{is_same_key}
-use Rattle.kind_store.proofs.Placed.{any_placed}
+use Rattle.record_state.proofs.Placed.{any_placed}
 use Rattle.kind_store.proofs.soundness.any_there.Goals as goal
 
 pub returns : goal.returns

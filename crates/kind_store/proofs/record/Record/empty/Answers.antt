@@ -1,6 +1,6 @@
 use Rattle.std.proofs.Common.{◌≡◌, ◌≤◌, ap, sym, subst, ◌∙◌, arith}
 use Rattle.storage_model.specs.Records.{weight}
-use Rattle.kind_store.proofs.KindMaps.{weight-empty}
+use Rattle.record_state.proofs.KindMaps.{weight-empty}
 use Rattle.kind_store.proofs.record.Record.empty.Goals as goal
 
 pub invariant_of-result : goal.invariant_of-result

@@ -1,7 +1,7 @@
 use Rattle.std.proofs.Common.{◌≡◌, ◌≤◌, ◌<◌, ◌^◌, ℕ, ap, sym, subst, ◌∙◌, arith}
 use Rattle.storage_model.specs.Records.{Record, weight}
-use Rattle.kind_store.specs.Light.{kinds_sum}
-use Rattle.kind_store.proofs.KindMaps.{kinds_counted, weighed}
+use Rattle.record_state.specs.Light.{kinds_sum}
+use Rattle.record_state.proofs.KindMaps.{kinds_counted, weighed}
 use Rattle.kind_store.proofs.record.Record.weight.Goals as goal
 
 fits : (n w : ℕ) → n ≡ w → w ≤ 131072 → n < 2 ^ 64

@@ -5,7 +5,7 @@ use Rattle.std.proofs.lemmas.Result.{on_ok_weaker, on_err_weaker}
 use Rattle.storage_model.specs.Records.{record_in}
 use Rattle.storage_model.specs.Verdict.{outcome_of}
 use Rattle.storage_model.specs.Decisions.{changed}
-use Rattle.kind_store.proofs.Finite.{found_there, chosen_false, missing_there}
+use Rattle.ordered_tables.proofs.Finite.{found_there, chosen_false, missing_there}
 use Rattle.kind_store.proofs.Shelves.{put_record, stayed_there, decided_there, decided_nothing, none_more}
 use Rattle.kind_store.proofs.shelf.Shelf.decide_store.Goals as goal
 

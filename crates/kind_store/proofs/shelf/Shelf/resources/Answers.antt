@@ -5,7 +5,7 @@ use Rattle.std.specs.Map.Iter.{deref_pair}
 use Rattle.std.proofs.lemmas.Map.Iter.{rest_all}
 use Rattle.storage_model.specs.Records.{Map}
 use Rattle.kind_store.specs.Written.{was_written, resource_of, written}
-use Rattle.kind_store.proofs.Trees.{same_shown, append_none}
+use Rattle.ordered_tables.proofs.Trees.{same_shown, append_none}
 use Rattle.kind_store.proofs.shelf.Shelf.resources.Goals as goal
 
 pub returns : goal.returns

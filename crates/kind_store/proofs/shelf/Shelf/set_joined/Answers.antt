@@ -3,7 +3,7 @@ use Rattle.std.specs.Prelude.{is_some, unwrap_or}
 use Rattle.std.specs.FinMap as map
 use Rattle.storage_model.specs.Records.{Record, Map, record_in}
 use Rattle.storage_model.specs.Decisions.{changed, with_joined}
-use Rattle.kind_store.proofs.Finite.{found_there, chosen_false, missing_there}
+use Rattle.ordered_tables.proofs.Finite.{found_there, chosen_false, missing_there}
 use Rattle.kind_store.proofs.Shelves.{put_record, changed_there, record_there, record_missing, joined_first, joined_new}
 use Rattle.kind_store.proofs.shelf.Shelf.set_joined.Goals as goal
 

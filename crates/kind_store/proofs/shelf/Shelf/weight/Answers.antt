@@ -1,6 +1,6 @@
 use Rattle.std.proofs.Common.{◌≡◌, ap, sym, ◌∙◌}
 use Rattle.storage_model.specs.Records.{Record, Map, record_in, weight}
-use Rattle.kind_store.proofs.KindMaps.{weight-empty}
+use Rattle.record_state.proofs.KindMaps.{weight-empty}
 use Rattle.kind_store.proofs.Shelves.{record_missing}
 use Rattle.kind_store.proofs.shelf.Shelf.weight.Goals as goal
 

@@ -1,7 +1,0 @@
-use Rattle.std.proofs.Common.{◌≡◌, sym, ap, ◌∙◌}
-use Rattle.kind_store.proofs.Lookups.{floor_none, next_none, count_none, heavy}
-use Rattle.kind_store.proofs.KindMaps.{kinds_counted}
-use Rattle.kind_store.proofs.kinds.Kinds.next_index_of.Goals as goal
-
-pub returns-in-None-clause-value : goal.returns-in-None-clause-value
-returns-in-None-clause-value c = next_none c.args.self.now c.args.id c.in-None.ensures

@@ -1,0 +1,4 @@
+pub mod Finite
+pub mod KeyMaps
+pub mod NumberMaps
+pub mod Trees

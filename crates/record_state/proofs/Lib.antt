@@ -1,0 +1,9 @@
+pub mod SlotMaps
+pub mod KindMaps
+pub mod Undos
+pub mod Placed
+pub mod Sweeps
+pub mod PutKinds
+pub mod Lookups
+pub mod Listing
+pub mod Rings

@@ -1,0 +1,12 @@
+use Rattle.std.proofs.Common.{◌≡◌, ap, sym, ◌∙◌}
+use Rattle.record_state.specs.Log.{all_undone}
+use Rattle.record_state.specs.Undo.{Drafted}
+use Rattle.record_state.proofs.Undos.{all_undone-push}
+use Rattle.record_state.proofs.draft.Draft.rollback.Goals as goal
+
+pub loop-undo-preserved : goal.loop-undo-preserved
+loop-undo-preserved c = ap (all_undone c.pop.new.self) c.undo.ensures ∙ sym (all_undone-push c.pop.new.self c.in-Some.undo c.loop-undo.kinds) ∙ ap (λ us. all_undone us c.loop-undo.kinds) (sym c.in-Some.ensures) ∙ c.loop-undo.invariant
+
+pub returns : goal.returns
+unfolding all_undone
+returns c = ap (λ us. all_undone us c.loop-undo.kinds) (sym c.in_default.ensures.0) ∙ c.loop-undo.invariant ∙ ap (λ us. all_undone us c.self.inside.kinds) c.from_vec-log.ensures ∙ ap (λ (d : Drafted). d.before) c.self.view_is

@@ -1,0 +1,15 @@
+use Rattle.std.proofs.Common.{◌≡◌, ◌+◌, ◌≤◌, ◌<◌, ◌^◌, ℕ, ◌-◌, ◌*◌, true, refl, ap, sym, subst, ◌∙◌, arith}
+use Rattle.std.specs.Prelude.{Some, None, is_some, if◌then◌else◌}
+use Rattle.std.specs.FinMap as map
+use Rattle.record_state.specs.Light.{slots_sum, kinds_sum}
+use Rattle.ordered_tables.proofs.Finite.{found_there, chosen_true, chosen_false}
+use Rattle.record_state.proofs.SlotMaps.{all_of, taken, rest, left, less, sum_small}
+use Rattle.record_state.proofs.KindMaps.{ids-insert, kind_counted, kinds_sum-le, kinds_sum-empty, put_kind_weight, taken_kind_weight}
+use Rattle.record_state.proofs.kinds.Kinds.add.Goals as goal
+
+pub invariant_of-self-2 : goal.invariant_of-self-2
+invariant_of-self-2 c = (
+  all_of _ _ _ (put_kind_weight c.self.inside.table c.args.id c.args.kind None _ _ 0 (sym (ap (λ m. map.get m c.args.id) c.self.view_is ∙ c.requires)) (c.weight-sum.ensures.value ∙ ap kinds_sum (sym c.self.view_is)) c.weight-weight.ensures refl)
+      ∙ ap kinds_sum (sym c.in_ok-insert.ensures.ok),
+  rw c.in_ok-insert.ensures.ok (ids-insert c.self.inside.table c.args.id c.args.kind c.self.invariant.1 (omega (arith, c.ranges.id))),
+)
