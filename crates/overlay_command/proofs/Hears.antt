@@ -17,7 +17,7 @@ use Rattle.storage_model.specs.Decisions.{Decision, kinds_of, IsLegalFrom}
 use Rattle.storage_model.specs.Laws.{IsSoundAsked, IsSound, AreSound}
 use Rattle.storage_model.proofs.Counters.{counters_bounded}
 use Rattle.scenario_text.specs.declared.scenario.Scenario.{Scenario}
-use Rattle.scenario_text.specs.Transcript.{refused_line}
+use Rattle.transcript_text.specs.Transcript.{refused_line}
 use Rattle.overlay_command.specs.declared.desk.Desk.{Desk}
 use Rattle.overlay_command.specs.declared.desk.Issued.{Issued}
 use Rattle.overlay_command.specs.Desks.{Done, quiet, then_on, delivered, hearing, heard_at, after_decision, decision_on, drained}

@@ -9,7 +9,8 @@ use Rattle.text_words.specs.Lines.{ended}
 use Rattle.scenario_text.specs.declared.scenario.Scenario.{Scenario}
 use Rattle.scenario_text.specs.declared.scenario.Event.{Event}
 use Rattle.scenario_text.specs.Scenarios.{IsEventOf, IsScenario}
-use Rattle.scenario_text.specs.Transcript.{echo, end_line}
+use Rattle.scenario_text.specs.Echo.{echo}
+use Rattle.transcript_text.specs.Transcript.{end_line}
 use Rattle.overlay_command.specs.declared.desk.Desk.{Desk}
 use Rattle.overlay_command.specs.Desks.{empty_desk, stepped, text_from, transcript}
 use Rattle.overlay_command.specs.Bounds.{IsKept}

@@ -1,9 +1,9 @@
 -- The declared node of a number.
 use Rattle.std.proofs.Common.{◌≡◌, ℕ, ◌≤◌, List, [], ◌∷◌, Some, eqb, sym, subst}
 use Rattle.std.specs.List.{flat_map, AllByRecursion}
-use Rattle.scenario_text.specs.declared.scenario.TheConstants.{MAX_NUMBER}
+use Rattle.request_words.specs.declared.node.TheConstants.{MAX_NUMBER}
 use Rattle.scenario_text.specs.declared.scenario.Scenario.{Scenario}
-use Rattle.scenario_text.specs.declared.scenario.DeclaredNode.{DeclaredNode}
+use Rattle.request_words.specs.declared.node.DeclaredNode.{DeclaredNode}
 use Rattle.scenario_text.specs.declared.saying.Declaration.{Declaration}
 use Rattle.scenario_text.specs.declared.saying.Declaration.TheVariants.{Kind, Node}
 use Rattle.scenario_text.specs.Sayings.{IsDeclaration}

@@ -26,17 +26,17 @@ use Rattle.storage_model.proofs.Whole.{once}
 use Rattle.storage_model.proofs.Lasts.{last_given}
 use Rattle.storage_model.proofs.Permitted.{permitted_all}
 use Rattle.scenario_text.specs.declared.scenario.Scenario.{Scenario}
-use Rattle.scenario_text.specs.declared.scenario.DeclaredNode.{DeclaredNode}
+use Rattle.request_words.specs.declared.node.DeclaredNode.{DeclaredNode}
 use Rattle.scenario_text.specs.declared.scenario.Event.{Event}
 use Rattle.scenario_text.specs.declared.scenario.EventKind.{EventKind}
 use Rattle.scenario_text.specs.declared.scenario.EventKind.TheVariants.{Clock, Store, Fetch, Deliver, Drain}
 use Rattle.scenario_text.specs.declared.scenario.StoreEvent.{StoreEvent}
 use Rattle.scenario_text.specs.declared.scenario.FetchEvent.{FetchEvent}
-use Rattle.scenario_text.specs.declared.scenario.GroupWords.{GroupWords}
-use Rattle.scenario_text.specs.declared.scenario.ValueWord.{ValueWord}
-use Rattle.scenario_text.specs.declared.scenario.ResourceName.{ResourceName}
-use Rattle.scenario_text.specs.Values.{IsSlotKey, IsValue}
-use Rattle.scenario_text.specs.Groups.{IsGroup}
+use Rattle.request_words.specs.declared.groups.GroupWords.{GroupWords}
+use Rattle.request_words.specs.declared.value.ValueWord.{ValueWord}
+use Rattle.request_words.specs.declared.resource.ResourceName.{ResourceName}
+use Rattle.request_words.specs.Values.{IsSlotKey, IsValue}
+use Rattle.request_words.specs.Groups.{IsGroup}
 use Rattle.scenario_text.specs.Desk.{has_key, admits_group, are_declared, admits}
 use Rattle.scenario_text.specs.Sayings.{IsEvent}
 use Rattle.scenario_text.specs.Scenarios.{IsEventOf, IsScenario}

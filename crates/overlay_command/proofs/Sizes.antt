@@ -8,10 +8,10 @@ use Rattle.data_models.specs.declared.stored_data.SlotKey.TheVariants.{Whole, In
 use Rattle.data_models.specs.declared.stored_data.StoredData.{StoredData}
 use Rattle.data_models.specs.Stored.{key_size, stored_size, stored}
 use Rattle.data_models.proofs.Lengths.{stored_size-parts}
-use Rattle.scenario_text.specs.declared.scenario.Data.{Data}
-use Rattle.scenario_text.specs.declared.scenario.Data.TheVariants.{Nonexistent, Bytes, Fill}
-use Rattle.scenario_text.specs.declared.scenario.ValueWord.{ValueWord}
-use Rattle.scenario_text.specs.Values.{IsSlotKey, IsData, IsValue}
+use Rattle.request_words.specs.declared.data.Data.{Data}
+use Rattle.request_words.specs.declared.data.Data.TheVariants.{Nonexistent, Bytes, Fill}
+use Rattle.request_words.specs.declared.value.ValueWord.{ValueWord}
+use Rattle.request_words.specs.Values.{IsSlotKey, IsData, IsValue}
 use Rattle.overlay_command.specs.Desks.{bytes_of, blank_signature, stored_of}
 
 bytes_small : (content : Data) → IsData content → length (bytes_of content) ≤ 200000

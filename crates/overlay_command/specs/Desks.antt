@@ -22,20 +22,21 @@ use Rattle.storage_model.specs.Records.{Map, record_in}
 use Rattle.storage_model.specs.Requests.{is_sound, is_sound_fetch}
 use Rattle.storage_model.specs.Decisions.{Decision, Effect, effect_of, changed}
 use Rattle.scenario_text.specs.declared.scenario.Scenario.{Scenario}
-use Rattle.scenario_text.specs.declared.scenario.DeclaredNode.{DeclaredNode}
+use Rattle.request_words.specs.declared.node.DeclaredNode.{DeclaredNode}
 use Rattle.scenario_text.specs.declared.scenario.Event.{Event}
 use Rattle.scenario_text.specs.declared.scenario.EventKind.{EventKind}
 use Rattle.scenario_text.specs.declared.scenario.EventKind.TheVariants.{Clock, Store, Fetch, Deliver, Drain}
 use Rattle.scenario_text.specs.declared.scenario.StoreEvent.{StoreEvent}
-use Rattle.scenario_text.specs.declared.scenario.GroupWords.{GroupWords}
-use Rattle.scenario_text.specs.declared.scenario.ValueWord.{ValueWord}
+use Rattle.request_words.specs.declared.groups.GroupWords.{GroupWords}
+use Rattle.request_words.specs.declared.value.ValueWord.{ValueWord}
 use Rattle.scenario_text.specs.declared.scenario.FetchEvent.{FetchEvent}
-use Rattle.scenario_text.specs.declared.scenario.SpecifierWord.{SpecifierWord}
-use Rattle.scenario_text.specs.declared.scenario.ResourceName.{ResourceName}
-use Rattle.scenario_text.specs.declared.scenario.ResourceName.TheVariants.{Name, Id}
-use Rattle.scenario_text.specs.declared.scenario.Data.{Data}
-use Rattle.scenario_text.specs.declared.scenario.Data.TheVariants.{Nonexistent, Bytes, Fill}
-use Rattle.scenario_text.specs.Transcript.{decide_line, answer_line, refused_line, echo, end_line}
+use Rattle.request_words.specs.declared.specifier.SpecifierWord.{SpecifierWord}
+use Rattle.request_words.specs.declared.resource.ResourceName.{ResourceName}
+use Rattle.request_words.specs.declared.resource.ResourceName.TheVariants.{Name, Id}
+use Rattle.request_words.specs.declared.data.Data.{Data}
+use Rattle.request_words.specs.declared.data.Data.TheVariants.{Nonexistent, Bytes, Fill}
+use Rattle.scenario_text.specs.Echo.{echo}
+use Rattle.transcript_text.specs.Transcript.{decide_line, answer_line, refused_line, end_line}
 use Rattle.overlay_command.specs.declared.desk.Issued.{Issued}
 use Rattle.overlay_command.specs.declared.desk.Desk.{Desk}
 

@@ -12,7 +12,7 @@ use Rattle.storage_model.specs.Laws.{WasPermitted, map_of, kind_at, last_put}
 use Rattle.storage_model.specs.Decisions.{Decision, IsLegal, IsOnce, puts_from, puts_in}
 use Rattle.scenario_text.specs.declared.scenario.Scenario.{Scenario}
 use Rattle.scenario_text.specs.Scenarios.{IsTextOf, IsFirstBad}
-use Rattle.scenario_text.specs.Transcript.{bad_line}
+use Rattle.transcript_text.specs.Transcript.{bad_line}
 use Rattle.wire_core.specs.declared.bad.Bad.{Bad}
 use Rattle.frame_listing.specs.Listing.{IsWhole, IsListing}
 use Rattle.overlay_command.specs.declared.status.Status.{Status}

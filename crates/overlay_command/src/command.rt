@@ -3,7 +3,7 @@
 ghost use Rattle.std.specs.Prelude.{◌≡◌, ◌≤◌, length, IfOk};
 ghost use Rattle.reload_base.specs.Whole.{WritesAll};
 ghost use Rattle.text_words.specs.Lines.{ended};
-ghost use Rattle.scenario_text.specs.Transcript.{bad_line};
+ghost use Rattle.transcript_text.specs.Transcript.{bad_line};
 ghost use Rattle.overlay_command.specs.Top.{Ends, Completes, usage_line, too_long_line};
 ghost use Rattle.overlay_command.specs.Answers.{AnswersInput, listed};
 
@@ -14,8 +14,9 @@ use frame_listing::{Listing, list_stream};
 use reload_base::{
     Bytes, MAX_INPUT, NoMemory, ReadError, Sink, Source, WriteError, read_all, write_all,
 };
-use scenario_text::{TextFault, put_bad_line, read_scenario};
+use scenario_text::{TextFault, read_scenario};
 use std::alloc::Global;
+use transcript_text::put_bad_line;
 
 // Writes lines, and answers the status that they tell.
 fn tell<K: Sink>(lines: &[u8], status: Status, sink: &mut K) -> Result<Status, WriteError>

@@ -4,10 +4,10 @@ ghost use Rattle.std.specs.Prelude.{◌≡◌, ◌+◌, ◌<◌, ◌≤◌, ◌^
 ghost use Rattle.std.specs.Option.{option_copied};
 ghost use Rattle.storage_model.specs.Records.{record_in};
 ghost use Rattle.storage_model.specs.Decisions.{changed};
-ghost use Rattle.scenario_text.specs.declared.scenario.TheConstants.{MAX_NUMBER};
+ghost use Rattle.request_words.specs.declared.node.TheConstants.{MAX_NUMBER};
 ghost use Rattle.scenario_text.specs.Lines.Store.{IsStore};
 ghost use Rattle.scenario_text.specs.Scenarios.{IsEventOf, IsScenario};
-ghost use Rattle.scenario_text.specs.Answers.{answer_of};
+ghost use Rattle.transcript_text.specs.Answers.{answer_of};
 ghost use Rattle.overlay_command.specs.Desks.{empty_desk, node_of, issued_as, issued, asked_by, store_of, fetch_of, effect_by, heard_at, delivered, drained, stepped};
 ghost use Rattle.overlay_command.specs.Bounds.{IsDecidable, IsSteady, IsKept};
 
@@ -17,12 +17,11 @@ use data_models::Config;
 use kind_store::Shelf;
 use reload_base::{Bytes, List, NoMemory};
 use reload_ids::{NodeId, ResourceId};
-use scenario_text::{
-    DecisionLine, DeclaredNode, Event, EventKind, FetchEvent, ResourceName, Scenario, StoreEvent,
-    Told, put_answer_line, put_decide_line, put_refused_line,
-};
+use request_words::{DeclaredNode, ResourceName};
+use scenario_text::{Event, EventKind, FetchEvent, Scenario, StoreEvent};
 use std::alloc::Global;
 use storage_model::{Asked, Refusal};
+use transcript_text::{DecisionLine, Told, put_answer_line, put_decide_line, put_refused_line};
 
 /// A request that was issued.
 #[derive(Debug, Drop)]

@@ -3,17 +3,16 @@
 ghost use Rattle.std.specs.Prelude.{◌≡◌, map, replicate, IfOk};
 ghost use Rattle.std.specs.List.{AllByRecursion};
 ghost use Rattle.data_models.specs.Stored.{stored_size};
-ghost use Rattle.scenario_text.specs.Values.{IsValue};
-ghost use Rattle.scenario_text.specs.Groups.{IsGroup, AreGroups};
+ghost use Rattle.request_words.specs.Values.{IsValue};
+ghost use Rattle.request_words.specs.Groups.{IsGroup, AreGroups};
 ghost use Rattle.overlay_command.specs.Desks.{about_client, id_of_resource, is_present, bytes_of, blank_signature, stored_of, value_of, kind_of_group, store_of, specifier_of, fetch_of};
 
 use data_models::{Config, Specifier, StoredData};
 use kind_store::{sound, sound_fetch};
 use reload_base::{Bytes, List, NoMemory, TryCopy};
 use reload_ids::{ResourceId, resource_of};
-use scenario_text::{
-    Data, DeclaredNode, FetchEvent, GroupWords, ResourceName, SpecifierWord, StoreEvent, ValueWord,
-};
+use request_words::{Data, DeclaredNode, GroupWords, ResourceName, SpecifierWord, ValueWord};
+use scenario_text::{FetchEvent, StoreEvent};
 use security_block::About;
 use std::alloc::Global;
 use storage_model::{Asked, AskedKind, FetchAsked, StoreAsked, Value};
@@ -128,6 +127,7 @@ fn values_of(
     ensures { IfOk result (λ values. values ≡ map (value_of client.now) words.now) }
 {
     let mut values = List::new(alloc);
+    values.reserve(words.len())?;
     for word in words {
         values.push(value_of(alloc, client, word)?)?;
     }
@@ -159,6 +159,7 @@ fn kinds_of_groups(
     ensures { IfOk result (λ kinds. kinds ≡ map (kind_of_group client.now) groups.now) }
 {
     let mut kinds = List::new(alloc);
+    kinds.reserve(groups.len())?;
     for group in groups {
         kinds.push(kind_of_group(alloc, client, group)?)?;
     }
@@ -203,6 +204,7 @@ fn specifiers_of(alloc: Global, words: &[SpecifierWord]) -> Result<List<Specifie
     ensures { IfOk result (λ specifiers. specifiers ≡ map specifier_of words.now) }
 {
     let mut specifiers = List::new(alloc);
+    specifiers.reserve(words.len())?;
     for word in words {
         specifiers.push(specifier_of(alloc, word)?)?;
     }

@@ -4,14 +4,16 @@ ghost use Rattle.std.specs.Prelude.{◌≡◌, ◌<◌, ◌^◌, length, OnOk};
 ghost use Rattle.reload_base.specs.Whole.{WritesAll};
 ghost use Rattle.text_words.specs.Lines.{ended};
 ghost use Rattle.scenario_text.specs.Scenarios.{IsEventOf, IsScenario};
-ghost use Rattle.scenario_text.specs.Transcript.{echo, end_line};
+ghost use Rattle.scenario_text.specs.Echo.{echo};
+ghost use Rattle.transcript_text.specs.Transcript.{end_line};
 ghost use Rattle.overlay_command.specs.Bounds.{IsKept};
 ghost use Rattle.overlay_command.specs.Desks.{stepped, transcript};
 
 use crate::desk::Desk;
 use reload_base::{Bytes, Sink, WriteError, write_all};
-use scenario_text::{Event, Scenario, put_echo, put_end_line};
+use scenario_text::{Event, Scenario, put_echo};
 use std::alloc::Global;
+use transcript_text::put_end_line;
 
 // Writes the declarations.
 fn write_echo<K: Sink>(alloc: Global, scenario: &Scenario, sink: &mut K) -> Result<(), WriteError>

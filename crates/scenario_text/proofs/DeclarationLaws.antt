@@ -24,9 +24,9 @@ use Rattle.data_models.specs.declared.config.DataModel.{DataModel}
 use Rattle.data_models.specs.declared.config.DataModel.TheVariants.{Single, Array, Dictionary}
 use Rattle.data_models.specs.declared.config.KindDef.{KindDef}
 use Rattle.data_models.specs.Configs.{IsKind, IsMultiple}
-use Rattle.scenario_text.specs.declared.scenario.TheConstants.{MAX_NUMBER}
-use Rattle.scenario_text.specs.declared.scenario.DeclaredNode.{DeclaredNode}
-use Rattle.scenario_text.specs.declared.scenario.Role.{Role}
+use Rattle.request_words.specs.declared.node.TheConstants.{MAX_NUMBER}
+use Rattle.request_words.specs.declared.node.DeclaredNode.{DeclaredNode}
+use Rattle.request_words.specs.declared.node.Role.{Role}
 use Rattle.scenario_text.specs.Lines.Overlay.{name_of, overlay_of, overlay_words}
 use Rattle.scenario_text.specs.Lines.Kind.{model_of, model_text, policy_of, policy_text, is_keyed, is_multiple, kind_of, kind_words, limits_in, IsKindLine}
 use Rattle.scenario_text.specs.Lines.Node.{node_id_of, node_of, node_parts, node_words, IsNode}

@@ -8,11 +8,12 @@ use Rattle.data_models.specs.declared.config.KindDef.{KindDef}
 use Rattle.data_models.specs.declared.config.Config.{Config}
 use Rattle.data_models.specs.Configs.{AreDistinct, kind_of}
 use Rattle.scenario_text.specs.declared.scenario.TheConstants.{MAX_NODES}
-use Rattle.scenario_text.specs.declared.scenario.DeclaredNode.{DeclaredNode}
-use Rattle.scenario_text.specs.declared.scenario.Role.TheVariants.{Peer}
-use Rattle.scenario_text.specs.Desk.{are_apart, is_new_kind, is_new_node, is_role}
+use Rattle.request_words.specs.declared.node.DeclaredNode.{DeclaredNode}
+use Rattle.request_words.specs.declared.node.Role.TheVariants.{Peer}
+use Rattle.request_words.specs.Nodes.{is_role}
+use Rattle.scenario_text.specs.Desk.{are_apart, is_new_kind, is_new_node}
 use Rattle.scenario_text.specs.Scenarios.{AreApart}
-use Rattle.scenario_text.proofs.GroupLaws.{all-snoc}
+use Rattle.request_words.proofs.GroupLaws.{all-snoc}
 
 -- what all of two lists have
 pub all-front : {A : Type 0} (P : A → Type 0) (xs ys : List A) → AllByRecursion P (xs ++ ys) → AllByRecursion P xs

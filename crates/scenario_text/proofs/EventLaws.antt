@@ -21,19 +21,19 @@ use Rattle.scenario_text.specs.declared.lines.drain.TheConstants.{MAX_DRAIN}
 use Rattle.scenario_text.specs.declared.request.Address.{Address}
 use Rattle.scenario_text.specs.declared.scenario.StoreEvent.{StoreEvent}
 use Rattle.scenario_text.specs.declared.scenario.FetchEvent.{FetchEvent}
-use Rattle.scenario_text.specs.declared.scenario.SpecifierWord.{SpecifierWord}
-use Rattle.scenario_text.specs.Resources.{resource_of, resource_text, IsResource}
+use Rattle.request_words.specs.declared.specifier.SpecifierWord.{SpecifierWord}
+use Rattle.request_words.specs.Resources.{resource_of, resource_text, IsResource}
 use Rattle.scenario_text.specs.Requests.{address_of, address_words, IsAddress}
-use Rattle.scenario_text.specs.Groups.{group_words, groups_of, AreGroups}
-use Rattle.scenario_text.specs.Specifiers.{specifier_of, specifier_text, IsSpecifier}
+use Rattle.request_words.specs.Groups.{group_words, groups_of, AreGroups}
+use Rattle.request_words.specs.Specifiers.{specifier_of, specifier_text, IsSpecifier}
 use Rattle.scenario_text.specs.Lines.Clock.{clock_of, clock_words, IsClock}
 use Rattle.scenario_text.specs.Lines.Deliver.{deliver_of, deliver_words, IsDeliver}
 use Rattle.scenario_text.specs.Lines.Drain.{drain_of, drain_words, IsDrain}
 use Rattle.scenario_text.specs.Lines.Store.{store_of, store_words, IsStore}
 use Rattle.scenario_text.specs.Lines.Fetch.{are_asked, fetch_of, fetch_words, IsFetch}
-use Rattle.scenario_text.proofs.GroupLaws.{groups_codec, groups-lack}
-use Rattle.scenario_text.proofs.ResourceLaws.{resource_codec, resource_text-lacks}
-use Rattle.scenario_text.proofs.SpecifierLaws.{specifier_codec, specifier_text-lacks, elsewhere_m, elsewhere_space}
+use Rattle.request_words.proofs.GroupLaws.{groups_codec, groups-lack}
+use Rattle.request_words.proofs.ResourceLaws.{resource_codec, resource_text-lacks}
+use Rattle.request_words.proofs.SpecifierLaws.{specifier_codec, specifier_text-lacks, elsewhere_m, elsewhere_space}
 
 -- ---- numbers
 

@@ -1,17 +1,11 @@
 pub mod BadLineLaws
-pub mod BytesLaws
 pub mod Chains
 pub mod DeclarationLaws
 pub mod DeskLaws
 pub mod EventLaws
-pub mod GroupLaws
 pub mod ReadLaws
 pub mod ReadingLines
-pub mod ResourceLaws
 pub mod SayingLaws
 pub mod ScenarioLaws
-pub mod SpecifierLaws
 pub mod StepLaws
 pub mod TextLaws
-pub mod ValueLaws
-pub mod WordLaws

@@ -11,9 +11,9 @@ use Rattle.text_words.proofs.CodecLaws.{fixed_codec, pieced_codec}
 use Rattle.text_words.proofs.Lacking.{decimal-has_no, name-has_no, Lacks-fixed}
 use Rattle.text_words.proofs.PiecesLaws.{AreJoined}
 use Rattle.text_words.proofs.StepsLaws.{bind_some, first_of-takes}
-use Rattle.scenario_text.specs.declared.scenario.DeclaredNode.{DeclaredNode}
-use Rattle.scenario_text.specs.declared.scenario.Role.{Role}
-use Rattle.scenario_text.specs.declared.scenario.Role.TheVariants.{Peer, Client, Hostile}
+use Rattle.request_words.specs.declared.node.DeclaredNode.{DeclaredNode}
+use Rattle.request_words.specs.declared.node.Role.{Role}
+use Rattle.request_words.specs.declared.node.Role.TheVariants.{Peer, Client, Hostile}
 use Rattle.scenario_text.specs.declared.scenario.EventKind.{EventKind}
 use Rattle.scenario_text.specs.declared.scenario.EventKind.TheVariants.{Clock, Deliver, Drain, Store, Fetch}
 use Rattle.scenario_text.specs.declared.saying.Declaration.{Declaration}

@@ -9,7 +9,7 @@ use Rattle.data_models.specs.declared.config.Config.{Config}
 use Rattle.data_models.specs.declared.config.TheConstants.{MAX_KINDS}
 use Rattle.data_models.specs.Configs.{AreDistinct}
 use Rattle.scenario_text.specs.declared.scenario.TheConstants.{MAX_NODES}
-use Rattle.scenario_text.specs.declared.scenario.DeclaredNode.{DeclaredNode}
+use Rattle.request_words.specs.declared.node.DeclaredNode.{DeclaredNode}
 use Rattle.scenario_text.specs.declared.scenario.Scenario.{Scenario}
 use Rattle.scenario_text.specs.declared.scenario.Event.{Event}
 use Rattle.scenario_text.specs.declared.saying.Declaration.{Declaration}

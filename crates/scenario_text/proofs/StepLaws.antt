@@ -12,7 +12,7 @@ use Rattle.text_words.specs.Steps.{◌>>=◌, allowed}
 use Rattle.text_words.proofs.StepsLaws.{bind_some, allowed_some}
 use Rattle.data_models.specs.declared.config.KindDef.{KindDef}
 use Rattle.data_models.specs.Configs.{IsConfig}
-use Rattle.scenario_text.specs.declared.scenario.DeclaredNode.{DeclaredNode}
+use Rattle.request_words.specs.declared.node.DeclaredNode.{DeclaredNode}
 use Rattle.scenario_text.specs.declared.scenario.Scenario.{Scenario}
 use Rattle.scenario_text.specs.declared.scenario.Event.{Event}
 use Rattle.scenario_text.specs.declared.scenario.EventKind.{EventKind}
@@ -25,7 +25,7 @@ use Rattle.scenario_text.specs.Sayings.{declaration_line, event_line, overlay_li
 use Rattle.scenario_text.specs.Scenarios.{kind_in, node_in, IsDeclared, AreApart, IsEventOf, IsBegun}
 use Rattle.scenario_text.specs.Reading.{opened, and_kind, and_node, and_event, with_kind, with_node, with_event, with_saying, said_at}
 use Rattle.scenario_text.proofs.DeskLaws.{new-kind, new-node}
-use Rattle.scenario_text.proofs.GroupLaws.{all-snoc, map-snoc, flat_map-snoc}
+use Rattle.request_words.proofs.GroupLaws.{all-snoc, map-snoc, flat_map-snoc}
 use Rattle.scenario_text.proofs.SayingLaws.{saying_codec}
 
 -- numbered lines that say something spell a scenario

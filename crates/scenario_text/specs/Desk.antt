@@ -13,20 +13,14 @@ use Rattle.data_models.specs.declared.fetched.Selector.{Selector}
 use Rattle.data_models.specs.declared.fetched.Selector.TheVariants as selectors
 use Rattle.data_models.specs.Configs.{kind_of}
 use Rattle.scenario_text.specs.declared.scenario.TheConstants.{MAX_NODES}
-use Rattle.scenario_text.specs.declared.scenario.Role.{Role}
-use Rattle.scenario_text.specs.declared.scenario.Role.TheVariants.{Peer, Client, Hostile}
-use Rattle.scenario_text.specs.declared.scenario.DeclaredNode.{DeclaredNode}
+use Rattle.request_words.specs.declared.node.Role.{Role}
+use Rattle.request_words.specs.declared.node.Role.TheVariants.{Peer, Client}
+use Rattle.request_words.specs.declared.node.DeclaredNode.{DeclaredNode}
 use Rattle.scenario_text.specs.declared.scenario.EventKind.{EventKind}
 use Rattle.scenario_text.specs.declared.scenario.EventKind.TheVariants.{Clock, Deliver, Drain, Store, Fetch}
-use Rattle.scenario_text.specs.declared.scenario.GroupWords.{GroupWords}
-use Rattle.scenario_text.specs.declared.scenario.SpecifierWord.{SpecifierWord}
-
--- a role is this one
-abbrev pub is_role : Role → Role → Bool
-is_role Peer Peer = true
-is_role Client Client = true
-is_role Hostile Hostile = true
-is_role role other = false
+use Rattle.request_words.specs.declared.groups.GroupWords.{GroupWords}
+use Rattle.request_words.specs.declared.specifier.SpecifierWord.{SpecifierWord}
+use Rattle.request_words.specs.Nodes.{is_role}
 
 -- some node is a peer
 unfoldable pub has_peer : List DeclaredNode → Bool

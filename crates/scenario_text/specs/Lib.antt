@@ -1,16 +1,9 @@
-pub mod Answers
-pub mod Bytes
 pub mod Desk
+pub mod Echo
 pub mod Forms
-pub mod Groups
 pub mod Lines
 pub mod Reading
 pub mod Reads
 pub mod Requests
-pub mod Resources
 pub mod Sayings
 pub mod Scenarios
-pub mod Specifiers
-pub mod Transcript
-pub mod Values
-pub mod Words

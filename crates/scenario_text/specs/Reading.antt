@@ -5,7 +5,7 @@ use Rattle.text_words.specs.Steps.{◌>>=◌, allowed}
 use Rattle.text_words.specs.Lines.{lines_of, words_of, is_sound_line, is_passed_over}
 use Rattle.data_models.specs.declared.config.KindDef.{KindDef}
 use Rattle.scenario_text.specs.declared.scenario.TheConstants.{FIRST_SEQUENCE, REPLICAS}
-use Rattle.scenario_text.specs.declared.scenario.DeclaredNode.{DeclaredNode}
+use Rattle.request_words.specs.declared.node.DeclaredNode.{DeclaredNode}
 use Rattle.scenario_text.specs.declared.scenario.Scenario.{Scenario}
 use Rattle.scenario_text.specs.declared.scenario.EventKind.{EventKind}
 use Rattle.scenario_text.specs.declared.saying.Declaration.TheVariants.{Kind, Node}

@@ -4,7 +4,7 @@ use Rattle.std.specs.Fmt.{decimal}
 use Rattle.text_words.specs.Decimal.{decimal_of}
 use Rattle.text_words.specs.Steps.{◌>>=◌, part_of}
 use Rattle.scenario_text.specs.declared.request.Address.{Address}
-use Rattle.scenario_text.specs.Resources.{resource_of, resource_text, IsResource}
+use Rattle.request_words.specs.Resources.{resource_of, resource_text, IsResource}
 
 -- the words `C P RES`, and those behind them
 abbrev pub address_words : Address → List (List ℕ) → List (List ℕ)

@@ -3,8 +3,8 @@ use Rattle.std.specs.Prelude.{ℕ, List, ◌∷◌, Option, Some, codes}
 use Rattle.text_words.specs.Lines.{line_of}
 use Rattle.text_words.specs.Name.{IsName}
 use Rattle.text_words.specs.Steps.{◌>>=◌, first_of}
-use Rattle.scenario_text.specs.declared.scenario.Role.{Role}
-use Rattle.scenario_text.specs.declared.scenario.Role.TheVariants.{Peer, Client, Hostile}
+use Rattle.request_words.specs.declared.node.Role.{Role}
+use Rattle.request_words.specs.declared.node.Role.TheVariants.{Peer, Client, Hostile}
 use Rattle.scenario_text.specs.declared.scenario.EventKind.{EventKind}
 use Rattle.scenario_text.specs.declared.scenario.EventKind.TheVariants.{Clock, Deliver, Drain, Store, Fetch}
 use Rattle.scenario_text.specs.declared.saying.Declaration.{Declaration}

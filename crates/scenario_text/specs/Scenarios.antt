@@ -6,7 +6,7 @@ use Rattle.data_models.specs.declared.config.KindDef.{KindDef}
 use Rattle.data_models.specs.declared.config.Config.{Config}
 use Rattle.data_models.specs.Configs.{IsConfig}
 use Rattle.scenario_text.specs.declared.scenario.TheConstants.{MAX_NODES, FIRST_SEQUENCE, REPLICAS}
-use Rattle.scenario_text.specs.declared.scenario.DeclaredNode.{DeclaredNode}
+use Rattle.request_words.specs.declared.node.DeclaredNode.{DeclaredNode}
 use Rattle.scenario_text.specs.declared.scenario.Scenario.{Scenario}
 use Rattle.scenario_text.specs.declared.scenario.Event.{Event}
 use Rattle.scenario_text.specs.declared.saying.Declaration.{Declaration}

@@ -3,22 +3,11 @@
 
 ghost use Rattle.std.specs.Prelude.{◌≡◌, ◌==◌};
 ghost use Rattle.std.specs.List.{list_all};
-ghost use Rattle.scenario_text.specs.Desk.{admits, admits_group, admits_specifier, are_apart, are_declared, has_key, has_node, has_peer, has_selector, is_new_kind, is_new_node, is_role};
+ghost use Rattle.scenario_text.specs.Desk.{admits, admits_group, admits_specifier, are_apart, are_declared, has_key, has_node, has_peer, has_selector, is_new_kind, is_new_node};
 
-use crate::scenario::{
-    DeclaredNode, EventKind, GroupWords, MAX_NODES, Role, SpecifierWord, ValueWord,
-};
+use crate::scenario::{EventKind, MAX_NODES};
 use data_models::{Config, DataModel, KindDef, MAX_KINDS, Selector, SlotKey};
-
-/// Whether a role is this one.
-pub fn is_role(role: Role, other: Role) -> bool
-    ensures { result ≡ is_role role other }
-{
-    matches!(
-        (role, other),
-        (Role::Peer, Role::Peer) | (Role::Client, Role::Client) | (Role::Hostile, Role::Hostile)
-    )
-}
+use request_words::{DeclaredNode, GroupWords, Role, SpecifierWord, ValueWord, is_role};
 
 /// Whether some node is a peer.
 #[tactic(auto, unfolding(crate::specs::Desk::has_peer))]

@@ -10,9 +10,10 @@ ghost use Rattle.scenario_text.specs.declared.scenario.Scenario.{Scenario};
 use crate::desk::{admits, has_peer, is_new_kind, is_new_node};
 use crate::fault::TextFault;
 use crate::saying::{Declaration, Saying, saying_of};
-use crate::scenario::{DeclaredNode, Event, EventKind, FIRST_SEQUENCE, REPLICAS, Scenario};
+use crate::scenario::{Event, EventKind, FIRST_SEQUENCE, REPLICAS, Scenario};
 use data_models::{Config, KindDef};
 use reload_base::{Bytes, List, NoMemory};
+use request_words::DeclaredNode;
 use std::alloc::Global;
 use text_words::{first_line, is_passed_over, is_sound_line};
 

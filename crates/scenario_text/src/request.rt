@@ -4,11 +4,10 @@ ghost use Rattle.std.specs.Prelude.{◌≡◌, ◌-◌, ◌^◌, IfOk, option_ma
 ghost use Rattle.text_words.specs.Decimal.{decimal_of};
 ghost use Rattle.text_words.specs.Steps.{part_of};
 ghost use Rattle.scenario_text.specs.Requests.{address_of};
-ghost use Rattle.scenario_text.specs.Resources.{resource_of};
+ghost use Rattle.request_words.specs.Resources.{resource_of};
 
-use crate::resource::resource_of;
-use crate::scenario::ResourceName;
 use reload_base::NoMemory;
+use request_words::{ResourceName, resource_of};
 use std::alloc::Global;
 use text_words::{Pieces, decimal_of};
 

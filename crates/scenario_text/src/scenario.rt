@@ -1,12 +1,9 @@
 //! A scenario: what is declared, and what happens.
 
-use data_models::{Config, Selector, SlotKey};
+use data_models::Config;
 use reload_base::{Bytes, List};
-use reload_ids::{NodeId, ResourceId};
+use request_words::{DeclaredNode, GroupWords, ResourceName, SpecifierWord};
 use sqlite_items::Boxed;
-
-/// The greatest number of a node (this profile).
-pub const MAX_NUMBER: u32 = 9_999;
 
 /// The most nodes that a scenario declares (this profile).
 pub const MAX_NODES: usize = 256;
@@ -16,26 +13,6 @@ pub const FIRST_SEQUENCE: u16 = 1;
 
 /// How many successors hold a copy of each record, where no line says it.
 pub const REPLICAS: u8 = 2;
-
-/// What a node is.
-#[derive(Clone, Copy, Debug, PartialEq, Eq)]
-pub enum Role {
-    Peer,
-    Client,
-    /// A node that sends whatever it likes.
-    Hostile,
-}
-
-/// A node that a scenario declares.
-#[derive(Debug, Drop)]
-pub struct DeclaredNode {
-    /// The number by which a scenario names it, from 1 to [`MAX_NUMBER`](crate::MAX_NUMBER).
-    pub number: u32,
-    pub role: Role,
-    pub node: NodeId,
-    /// The user name, 1 to 64 bytes.
-    pub user: Bytes,
-}
 
 /// A scenario.
 #[derive(Debug, Drop)]
@@ -71,15 +48,6 @@ pub enum EventKind {
     Fetch(Boxed<FetchEvent>),
 }
 
-/// How a text names a resource.
-#[derive(Debug, Drop)]
-pub enum ResourceName {
-    /// By a name, whose Resource-ID is meant.
-    Name(Bytes),
-    /// By its Resource-ID.
-    Id(ResourceId),
-}
-
 /// A client's request to a peer to store values.
 #[derive(Debug, Drop)]
 pub struct StoreEvent {
@@ -94,39 +62,6 @@ pub struct StoreEvent {
     pub seq: Option<u16>,
     /// At least one.
     pub groups: List<GroupWords>,
-}
-
-/// A kind of a Store.
-#[derive(Debug, Drop)]
-pub struct GroupWords {
-    /// The Kind-ID.
-    pub kind: u32,
-    /// The generation counter that is asked for, or 0 for any.
-    pub generation: u64,
-    /// At least one.
-    pub values: List<ValueWord>,
-}
-
-/// A value as a word tells it, without its signature.
-#[derive(Debug, Drop)]
-pub struct ValueWord {
-    pub key: SlotKey,
-    /// The storage time in milliseconds.
-    pub storage_time: u64,
-    /// The lifetime in seconds.
-    pub lifetime: u32,
-    pub value: Data,
-}
-
-/// The bytes of a value.
-#[derive(Debug, Drop)]
-pub enum Data {
-    /// The value doesn't exist: it takes away the one before.
-    Nonexistent,
-    /// These bytes.
-    Bytes(Bytes),
-    /// So many bytes 0x61, at most [`MAX_FILL`](crate::MAX_FILL).
-    Fill(u32),
 }
 
 /// A client's request to a peer for values.
@@ -145,15 +80,4 @@ pub struct FetchEvent {
     pub max: Option<u32>,
     /// At least one.
     pub specifiers: List<SpecifierWord>,
-}
-
-/// A kind of a Fetch as a word tells it.
-#[derive(Debug, Drop)]
-pub struct SpecifierWord {
-    /// The Kind-ID.
-    pub kind: u32,
-    /// The generation counter that the client knows, where the word says one.
-    pub generation: Option<u64>,
-    /// `Whole` where the word says nothing of the values.
-    pub selector: Selector,
 }

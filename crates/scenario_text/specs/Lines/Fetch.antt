@@ -6,9 +6,9 @@ use Rattle.text_words.specs.Steps.{◌>>=◌, allowed, each_of}
 use Rattle.data_models.specs.declared.fetched.Selector.{Selector}
 use Rattle.data_models.specs.declared.fetched.Selector.TheVariants.{Whole, Ranges, Names, Raw}
 use Rattle.scenario_text.specs.declared.scenario.FetchEvent.{FetchEvent}
-use Rattle.scenario_text.specs.declared.scenario.SpecifierWord.{SpecifierWord}
+use Rattle.request_words.specs.declared.specifier.SpecifierWord.{SpecifierWord}
 use Rattle.scenario_text.specs.Requests.{address_of, address_words, IsAddress}
-use Rattle.scenario_text.specs.Specifiers.{specifier_of, specifier_text, IsSpecifier}
+use Rattle.request_words.specs.Specifiers.{specifier_of, specifier_text, IsSpecifier}
 
 -- a scenario asks for no empty list of ranges, and for no kind's bytes
 abbrev pub is_asked : Selector → Bool

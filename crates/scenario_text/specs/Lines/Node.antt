@@ -5,9 +5,9 @@ use Rattle.text_words.specs.Decimal.{number_of}
 use Rattle.text_words.specs.Id.{id_of, id_text}
 use Rattle.text_words.specs.Name.{IsName}
 use Rattle.text_words.specs.Steps.{◌>>=◌, allowed, part_of, only_of}
-use Rattle.scenario_text.specs.declared.scenario.TheConstants.{MAX_NUMBER}
-use Rattle.scenario_text.specs.declared.scenario.DeclaredNode.{DeclaredNode}
-use Rattle.scenario_text.specs.declared.scenario.Role.{Role}
+use Rattle.request_words.specs.declared.node.TheConstants.{MAX_NUMBER}
+use Rattle.request_words.specs.declared.node.DeclaredNode.{DeclaredNode}
+use Rattle.request_words.specs.declared.node.Role.{Role}
 use Rattle.scenario_text.specs.Lines.Overlay.{name_of}
 
 -- neither all zeros nor all ones (RFC 6940, 6.3.1.1)

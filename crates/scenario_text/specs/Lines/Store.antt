@@ -4,7 +4,7 @@ use Rattle.std.specs.List.{flat_map}
 use Rattle.text_words.specs.Labelled.{labelled_words}
 use Rattle.text_words.specs.Steps.{◌>>=◌}
 use Rattle.scenario_text.specs.declared.scenario.StoreEvent.{StoreEvent}
-use Rattle.scenario_text.specs.Groups.{group_words, groups_of, AreGroups}
+use Rattle.request_words.specs.Groups.{group_words, groups_of, AreGroups}
 use Rattle.scenario_text.specs.Requests.{address_of, address_words, IsAddress}
 
 -- the words behind `store`

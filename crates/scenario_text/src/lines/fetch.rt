@@ -5,13 +5,13 @@ ghost use Rattle.std.specs.List.{list_all};
 ghost use Rattle.text_words.specs.Labelled.{optional_of};
 ghost use Rattle.text_words.specs.Steps.{each_of};
 ghost use Rattle.scenario_text.specs.Lines.Fetch.{are_asked, fetch_of, is_asked};
-ghost use Rattle.scenario_text.specs.Specifiers.{specifier_of};
+ghost use Rattle.request_words.specs.Specifiers.{specifier_of};
 
 use crate::request::{Address, take_address};
-use crate::scenario::{FetchEvent, SpecifierWord};
-use crate::specifier::specifier_of;
+use crate::scenario::FetchEvent;
 use data_models::Selector;
 use reload_base::{List, NoMemory};
+use request_words::{SpecifierWord, push_tight, specifier_of};
 use std::alloc::Global;
 use text_words::{Pieces, take_labelled};
 
@@ -53,7 +53,7 @@ fn specifiers_of(
     'words: while let Some(word) = words.take() {
         match specifier_of(alloc, word)? {
             None => return Ok(None),
-            Some(specifier) => specifiers.push(specifier)?,
+            Some(specifier) => push_tight(&mut specifiers, specifier)?,
         }
     }
     Ok(Some(specifiers))

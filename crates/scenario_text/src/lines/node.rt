@@ -4,9 +4,9 @@ ghost use Rattle.std.specs.Prelude.{◌≡◌, IfOk, IfSome, ◌≤◌, option_m
 ghost use Rattle.scenario_text.specs.Lines.Node.{node_id_of, node_of, node_parts};
 
 use crate::lines::overlay::name_of;
-use crate::scenario::{DeclaredNode, MAX_NUMBER, Role};
 use reload_base::{Bytes, NoMemory};
 use reload_ids::NodeId;
+use request_words::{DeclaredNode, MAX_NUMBER, Role};
 use std::alloc::Global;
 use text_words::{Pieces, allowed, id_of, number_of};
 

@@ -3,10 +3,10 @@
 ghost use Rattle.std.specs.Prelude.{◌≡◌, IfOk};
 ghost use Rattle.scenario_text.specs.Lines.Store.{store_of};
 
-use crate::groups::groups_of;
 use crate::request::{Address, take_address};
 use crate::scenario::StoreEvent;
 use reload_base::NoMemory;
+use request_words::groups_of;
 use std::alloc::Global;
 use text_words::Pieces;
 

@@ -1,7 +1,7 @@
 use Rattle.std.proofs.Common.{refl}
 use Rattle.std.proofs.lemmas.Result.{err_from_is_err_and}
 use Rattle.text_words.specs.Lines.{ended}
-use Rattle.scenario_text.specs.Transcript.{bad_line}
+use Rattle.transcript_text.specs.Transcript.{bad_line}
 use Rattle.overlay_command.specs.declared.status.Status.TheVariants.{BadLine}
 use Rattle.overlay_command.specs.declared.form.Form.TheVariants.{Run}
 use Rattle.overlay_command.specs.Desks.{transcript}

@@ -1,0 +1,6 @@
+pub mod BytesLaws
+pub mod GroupLaws
+pub mod RawLaws
+pub mod ResourceLaws
+pub mod SpecifierLaws
+pub mod ValueLaws

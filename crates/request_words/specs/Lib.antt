@@ -1,0 +1,7 @@
+pub mod Bytes
+pub mod Groups
+pub mod Nodes
+pub mod Raw
+pub mod Resources
+pub mod Specifiers
+pub mod Values

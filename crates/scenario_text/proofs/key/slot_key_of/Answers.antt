@@ -1,7 +1,0 @@
-use Rattle.text_words.proofs.CodecLaws.{Spells-ok}
-use Rattle.scenario_text.specs.Values.{slot_key_of, slot_key_text, IsSlotKey}
-use Rattle.scenario_text.proofs.ValueLaws.{slot_key_codec}
-use Rattle.scenario_text.proofs.key.slot_key_of.Goals as goal
-
-pub returns-clause-spells : goal.returns-clause-spells
-returns-clause-spells c = Spells-ok slot_key_text IsSlotKey slot_key_of slot_key_codec c.args.word.now c.read.result c.read.ensures

@@ -1,0 +1,145 @@
+//! The answer to a request.
+
+ghost use Rattle.std.specs.Prelude.{◌≡◌, ◌++◌};
+ghost use Rattle.std.specs.List.{flat_map};
+ghost use Rattle.text_words.specs.Codec.{Appended, AppendedSome};
+ghost use Rattle.text_words.specs.Lines.{ended, spaced, spaced_by};
+ghost use Rattle.request_words.specs.Raw.{raw_text};
+ghost use Rattle.transcript_text.specs.Answers.{answer_of};
+ghost use Rattle.transcript_text.specs.Transcript.{answer_line, answer_text, code_text, found_kind, found_values};
+ghost use Rattle.transcript_text.specs.Words.{counter_text};
+
+use crate::value::{put_all_stored, put_head, put_raw};
+use data_models::{KindValues, StoreKind};
+use reload_base::{Bytes, NoMemory};
+use storage_model::{FetchVerdict, Refusal, StoreVerdict};
+use text_words::{all_or_nothing, put_decimal, put_transaction};
+
+/// An answer as a line tells it.
+#[derive(Debug, Drop)]
+pub enum Told {
+    /// The answer to a Store.
+    Store(StoreVerdict),
+    /// The answer to a Fetch.
+    Fetch(FetchVerdict),
+    /// An error.
+    Refused(Refusal),
+    /// A joiner is admitted.
+    Joined,
+}
+
+#[tactic(auto, unfolding(crate::specs::Words::counter_text))]
+fn put_counter(out: &mut Bytes, counter: (u32, u64)) -> Result<(), NoMemory>
+    ensures { AppendedSome out.old out.new (counter_text counter) result }
+{
+    put_decimal(out, u64::from(counter.0))?;
+    out.extend(b":")?;
+    put_decimal(out, counter.1)
+}
+
+#[tactic(auto, unfolding(text_words::specs::Lines::spaced_by))]
+fn put_next_counter(out: &mut Bytes, counter: (u32, u64)) -> Result<(), NoMemory>
+    ensures { AppendedSome out.old out.new (spaced_by counter_text counter) result }
+{
+    out.extend(b" ")?;
+    put_counter(out, counter)
+}
+
+fn put_counters(out: &mut Bytes, counters: &[(u32, u64)]) -> Result<(), NoMemory>
+    ensures { AppendedSome out.old out.new (flat_map (spaced_by counter_text) counters.now) result }
+{
+    for counter in counters {
+        put_next_counter(out, *counter)?;
+    }
+    Ok(())
+}
+
+#[tactic(auto, unfolding(crate::specs::Transcript::code_text))]
+fn put_code(out: &mut Bytes, code: u16) -> Result<(), NoMemory>
+    ensures { AppendedSome out.old out.new (code_text code) result }
+{
+    if code == 0 {
+        return out.extend(b" ok");
+    }
+    out.extend(b" error")?;
+    out.extend(b" ")?;
+    put_decimal(out, u64::from(code))
+}
+
+fn put_decided(out: &mut Bytes, code: u16, counters: &[(u32, u64)]) -> Result<(), NoMemory>
+    ensures { AppendedSome out.old out.new (code_text code
+        ++ flat_map (spaced_by counter_text) counters.now) result }
+{
+    put_code(out, code)?;
+    put_counters(out, counters)
+}
+
+fn put_next_raw(out: &mut Bytes, bytes: &[u8]) -> Result<(), NoMemory>
+    ensures { AppendedSome out.old out.new (spaced (raw_text bytes.now)) result }
+{
+    out.extend(b" ")?;
+    put_raw(out, bytes)
+}
+
+// Appends kind=ID/GEN and the values that were found.
+#[tactic(auto, unfolding(crate::specs::Transcript::found_kind))]
+fn put_found_kind(out: &mut Bytes, kind: &StoreKind) -> Result<(), NoMemory>
+    ensures { AppendedSome out.old out.new (found_kind kind.now) result }
+{
+    put_head(out, kind.kind, kind.generation)?;
+    match &kind.values {
+        KindValues::Known(values) => put_all_stored(out, values.as_slice()),
+        KindValues::Raw(bytes) => put_next_raw(out, bytes.as_slice()),
+    }
+}
+
+#[tactic(auto, unfolding(text_words::specs::Lines::spaced_by))]
+fn put_next_kind(out: &mut Bytes, kind: &StoreKind) -> Result<(), NoMemory>
+    ensures { AppendedSome out.old out.new (spaced_by found_kind kind.now) result }
+{
+    out.extend(b" ")?;
+    put_found_kind(out, kind)
+}
+
+fn put_found_kinds(out: &mut Bytes, kinds: &[StoreKind]) -> Result<(), NoMemory>
+    ensures { AppendedSome out.old out.new (flat_map (spaced_by found_kind) kinds.now) result }
+{
+    for kind in kinds {
+        put_next_kind(out, kind)?;
+    }
+    Ok(())
+}
+
+/// Appends ANSWER, each word behind a space.
+#[tactic(auto, unfolding(crate::specs::Transcript::answer_text))]
+pub fn put_answer(out: &mut Bytes, answer: &Told) -> Result<(), NoMemory>
+    ensures { AppendedSome out.old out.new (answer_text (answer_of answer.now)) result }
+{
+    match answer {
+        Told::Store(verdict) => put_decided(out, verdict.code, verdict.counters.as_slice()),
+        Told::Fetch(FetchVerdict::Values(kinds)) => put_found_kinds(out, kinds.as_slice()),
+        Told::Fetch(FetchVerdict::Refused(cause)) | Told::Refused(cause) => {
+            put_decided(out, cause.code(), &[])
+        }
+        Told::Joined => out.extend(b" joined"),
+    }
+}
+
+#[tactic(auto, unfolding(crate::specs::Transcript::answer_line))]
+fn put_answer_words(out: &mut Bytes, id: u64, answer: &Told) -> Result<(), NoMemory>
+    ensures { AppendedSome out.old out.new (ended (answer_line id (answer_of answer.now))) result }
+{
+    out.extend(b"answer ")?;
+    put_transaction(out, id)?;
+    put_answer(out, answer)?;
+    out.extend(b"\n")
+}
+
+/// Appends `answer H.L ANSWER`: the client has the answer to its request.
+pub fn put_answer_line(out: &mut Bytes, id: u64, answer: &Told) -> Result<(), NoMemory>
+    ensures { Appended out.old out.new (ended (answer_line id (answer_of answer.now))) result }
+{
+    let before = out.len();
+    let appended = put_answer_words(out, id, answer);
+    all_or_nothing(out, before, appended)
+}

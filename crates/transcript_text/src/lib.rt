@@ -1,0 +1,17 @@
+//! Transcripts: what is written of a run, line by line, each ended by a line feed. Each call
+//! appends the whole of its lines or nothing.
+#![tactic(auto)]
+
+mod answer;
+mod asked;
+mod decision;
+mod laws;
+mod lines;
+#[cfg(test)]
+mod tests;
+mod value;
+
+pub use answer::{Told, put_answer_line};
+pub use decision::{DecisionLine, put_decide_line};
+pub use laws::words_both_ways;
+pub use lines::{put_bad_line, put_end_line, put_refused_line};

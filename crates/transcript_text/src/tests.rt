@@ -1,0 +1,187 @@
+//! Lines of transcripts.
+
+use super::*;
+use data_models::{KindValues, Selector, SlotKey, Specifier, StoreKind, StoredData};
+use reload_base::{Bytes, List, NoMemory};
+use reload_ids::{NodeId, ResourceId};
+use request_words::{DeclaredNode, Role};
+use security_block::About;
+use std::alloc::Global;
+use std::test::Fail;
+use storage_model::{
+    Asked, AskedKind, FetchAsked, FetchVerdict, JoinAsked, Refusal, StoreAsked, StoreVerdict, Value,
+};
+use wire_core::{Signature, SignerIdentity};
+
+fn stored(alloc: Global, key: SlotKey, value: &[u8]) -> Result<StoredData, NoMemory> {
+    Ok(StoredData {
+        key,
+        storage_time: 5_000,
+        lifetime: 60,
+        present: !value.is_empty(),
+        value: Bytes::from_slice(alloc, value)?,
+        signature: Signature {
+            hash: 0,
+            algorithm: 0,
+            identity: SignerIdentity::None,
+            value: List::new(alloc),
+        },
+    })
+}
+
+fn one<T: Drop>(alloc: Global, item: T) -> Result<List<T>, NoMemory> {
+    let mut items = List::new(alloc);
+    items.push(item)?;
+    Ok(items)
+}
+
+fn nodes(alloc: Global) -> Result<List<DeclaredNode>, NoMemory> {
+    one(
+        alloc,
+        DeclaredNode {
+            number: 2,
+            role: Role::Client,
+            node: NodeId(7),
+            user: Bytes::from_slice(alloc, b"u")?,
+        },
+    )
+}
+
+fn line_of(alloc: Global, asked: &Asked, answer: &Told) -> Result<Bytes, NoMemory> {
+    let mut out = List::new(alloc);
+    let line = DecisionLine {
+        peer: 1,
+        time: 0,
+        resource: ResourceId(1),
+        origin: NodeId(7),
+        id: 8_589_934_593,
+        asked,
+        answer,
+    };
+    put_decide_line(&mut out, nodes(alloc)?.as_slice(), &line)?;
+    Ok(out)
+}
+
+#[test]
+fn a_decided_store(rt: HostRuntime) -> Result<(), Fail> {
+    let value = Value {
+        stored: stored(rt.alloc(), SlotKey::End, b"hi")?,
+        signer: Some(About {
+            peer: false,
+            node: NodeId(7),
+            user: Bytes::from_slice(rt.alloc(), b"u")?,
+        }),
+        size: 100,
+    };
+    let kind = AskedKind {
+        kind: 257,
+        generation: 0,
+        values: Some(one(rt.alloc(), value)?),
+    };
+    let asked = Asked::Store(StoreAsked {
+        strange: true,
+        sequence: 1,
+        kinds: one(rt.alloc(), kind)?,
+    });
+    let told = Told::Store(StoreVerdict {
+        code: 5,
+        counters: one(rt.alloc(), (257, 3))?,
+        repeat: false,
+        acted: false,
+    });
+    let line = b"decide 1 0 00000000000000000000000000000001 store 2 2.1 strange \
+        kind=257/0 end:5000:60:+6869:2:100 -> error 5 257:3\n";
+    assert_eq!(rt;
+        line_of(rt.alloc(), &asked, &told)?.as_slice(),
+        line.as_slice()
+    );
+    Ok(())
+}
+
+#[test]
+fn a_decided_fetch(rt: HostRuntime) -> Result<(), Fail> {
+    let specifier = Specifier {
+        kind: 3,
+        generation: 4,
+        selector: Selector::Names(List::new(rt.alloc())),
+    };
+    let asked = Asked::Fetch(FetchAsked {
+        strange: false,
+        sequence: 1,
+        max: 9,
+        specifiers: one(rt.alloc(), specifier)?,
+    });
+    let name = SlotKey::Name(Bytes::from_slice(rt.alloc(), b"P")?);
+    let kind = StoreKind {
+        kind: 3,
+        generation: 5,
+        values: KindValues::Known(one(rt.alloc(), stored(rt.alloc(), name, b"")?)?),
+    };
+    let told = Told::Fetch(FetchVerdict::Values(one(rt.alloc(), kind)?));
+    let line = b"decide 1 0 00000000000000000000000000000001 fetch 2 2.1 max=9 \
+        3/4:* -> kind=3/5 =50:5000:60:-\n";
+    assert_eq!(rt;
+        line_of(rt.alloc(), &asked, &told)?.as_slice(),
+        line.as_slice()
+    );
+    Ok(())
+}
+
+#[test]
+fn a_kind_without_a_definition(rt: HostRuntime) -> Result<(), Fail> {
+    let specifier = Specifier {
+        kind: 9,
+        generation: 4,
+        selector: Selector::Raw(Bytes::from_slice(rt.alloc(), b"\x00\xff")?),
+    };
+    let asked = Asked::Fetch(FetchAsked {
+        strange: false,
+        sequence: 1,
+        max: 0,
+        specifiers: one(rt.alloc(), specifier)?,
+    });
+    let kind = StoreKind {
+        kind: 9,
+        generation: 5,
+        values: KindValues::Raw(Bytes::from_slice(rt.alloc(), b"hi")?),
+    };
+    let told = Told::Fetch(FetchVerdict::Values(one(rt.alloc(), kind)?));
+    let line = b"decide 1 0 00000000000000000000000000000001 fetch 2 2.1 max=0 \
+        9/4:?00ff -> kind=9/5 ?6869\n";
+    assert_eq!(rt;
+        line_of(rt.alloc(), &asked, &told)?.as_slice(),
+        line.as_slice()
+    );
+    Ok(())
+}
+
+#[test]
+fn other_lines(rt: HostRuntime) -> Result<(), Fail> {
+    let told = Told::Refused(Refusal::InvalidMessage);
+    let bad = b"decide 1 0 00000000000000000000000000000001 bad -> error 20\n";
+    assert_eq!(rt;
+        line_of(rt.alloc(), &Asked::Bad, &told)?.as_slice(),
+        bad.as_slice()
+    );
+    let join = Asked::Join(JoinAsked {
+        strange: false,
+        sequence: 1,
+    });
+    let joined = b"decide 1 0 00000000000000000000000000000001 join 2 2.1 -> joined\n";
+    assert_eq!(rt;
+        line_of(rt.alloc(), &join, &Told::Joined)?.as_slice(),
+        joined.as_slice()
+    );
+    let mut out = List::new(rt.alloc());
+    put_answer_line(&mut out, 8_589_934_593, &told)?;
+    put_refused_line(&mut out, 7)?;
+    put_end_line(&mut out, 1, 3)?;
+    put_bad_line(&mut out, 8)?;
+    let lines = b"answer 2.1 error 20
+refused 7 no-such-frame
+end requests=1 decisions=3
+bad line 8
+";
+    assert_eq!(rt; out.as_slice(), lines.as_slice());
+    Ok(())
+}
