@@ -2,7 +2,6 @@
 //! may stand in `out`.
 
 ghost use Rattle.std.specs.Prelude.{◌≡◌, ◌++◌, OnOk};
-ghost use Rattle.std.specs.Fmt.{decimal};
 ghost use Rattle.text_words.specs.Lines.{ended};
 ghost use Rattle.frame_listing.specs.Lines.{field, payload_line, ack_line, end_line, fault_line};
 
@@ -17,18 +16,7 @@ pub(crate) fn put_field(out: &mut Bytes, label: Label, n: u64) -> Result<(), NoM
     ensures { OnOk result (out.new ≡ out.old ++ field label n) }
 {
     out.extend(label.text())?;
-    put_number(out, n)
-}
-
-// Appends a decimal. Most numbers of a listing have one digit, which is pushed at once.
-fn put_number(out: &mut Bytes, n: u64) -> Result<(), NoMemory>
-    ensures { OnOk result (out.new ≡ out.old ++ decimal n) }
-{
-    if n < 10 {
-        out.push(b'0' + n as u8)
-    } else {
-        put_decimal(out, n)
-    }
+    put_decimal(out, n)
 }
 
 /// Appends `frame PLACE payload SEQ LENGTH`.
@@ -44,7 +32,7 @@ pub(crate) fn put_payload_line(
     put_field(out, Label::Frame, place)?;
     put_field(out, Label::Payload, u64::from(sequence))?;
     out.push(b' ')?;
-    put_number(out, len)?;
+    put_decimal(out, len)?;
     out.push(b'\n')
 }
 
@@ -72,7 +60,7 @@ pub(crate) fn put_end_line(out: &mut Bytes, frames: u64, bytes: u64) -> Result<(
 {
     put_field(out, Label::End, frames)?;
     out.push(b' ')?;
-    put_number(out, bytes)?;
+    put_decimal(out, bytes)?;
     out.push(b'\n')
 }
 

@@ -40,6 +40,7 @@ fn list(alloc: Global, stream: &[u8]) -> Result<Listing, NoMemory>
 {
     let config = no_kinds(alloc)?;
     let mut text = Bytes::new(alloc);
+    text.reserve(stream.len())?;
     let mut rest = stream;
     let mut frames = 0u64;
     'frames: while !rest.is_empty() {

@@ -74,9 +74,26 @@ fn read_from(least: u64, most: u64, word: &[u8]) -> Option<u64>
     Some(n)
 }
 
-/// Appends a number as a word.
+/// Appends a number as a word. Most have one digit, which is pushed at once.
 pub fn put_decimal(out: &mut Bytes, n: u64) -> Result<(), NoMemory>
     ensures { Appended out.old out.new (decimal n) result }
 {
-    out.extend(Buffer::new().format(n).as_bytes())
+    if n < 10 {
+        out.push(b'0' + n as u8)
+    } else {
+        put_digits(out, n)
+    }
+}
+
+// Appends a number of two digits or more. Two are put at once.
+#[inline(never)]
+fn put_digits(out: &mut Bytes, n: u64) -> Result<(), NoMemory>
+    requires { 10 ≤ n }
+    ensures { Appended out.old out.new (decimal n) result }
+{
+    if n < 100 {
+        out.extend(&[b'0' + (n / 10) as u8, b'0' + (n % 10) as u8])
+    } else {
+        out.extend(Buffer::new().format(n).as_bytes())
+    }
 }
