@@ -258,11 +258,11 @@ pub fn put_specifier(
     match &specifier.keys {
         Keys::Whole => Ok(()),
         Keys::Ranges(ranges) => {
-            let mut sign = ":";
+            let mut sign = b':';
             for (first, last) in ranges.as_slice().iter().copied() {
-                out.extend(sign.as_bytes())?;
+                out.push(sign)?;
                 out.extend(format!(in alloc; "{first}-{last}")?.as_bytes())?;
-                sign = ",";
+                sign = b',';
             }
             Ok(())
         }
@@ -270,11 +270,11 @@ pub fn put_specifier(
             if names.is_empty() {
                 out.extend(b":*")?;
             }
-            let mut sign = ":";
+            let mut sign = b':';
             for key in names.as_slice() {
-                out.extend(sign.as_bytes())?;
+                out.push(sign)?;
                 put_key(alloc, kind, Some(*key), out)?;
-                sign = ",";
+                sign = b',';
             }
             Ok(())
         }
