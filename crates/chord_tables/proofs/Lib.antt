@@ -1,0 +1,5 @@
+pub mod Places
+pub mod Room
+pub mod Merging
+pub mod Ranks
+pub mod Naming

@@ -1,0 +1,4 @@
+pub mod Neighbours
+pub mod Rising
+pub mod Sides
+pub mod Tables
