@@ -1,0 +1,14 @@
+pub mod Ways
+pub mod Lists
+pub mod Rising
+pub mod Counts
+pub mod Near
+pub mod Owners
+pub mod Merging
+pub mod Joining
+pub mod Walks
+pub mod Hops
+pub mod Sides
+pub mod Leaving
+pub mod Nearest
+pub mod Examples
