@@ -1,0 +1,11 @@
+//! Entries by the time at which they are due.
+#![tactic(auto)]
+
+mod due;
+mod place;
+#[cfg(test)]
+mod tests;
+mod timers;
+
+pub use due::Due;
+pub use place::Place;
