@@ -1,0 +1,5 @@
+pub mod Apart
+pub mod Once
+pub mod NumberMaps
+pub mod Outboxes
+pub mod Timers

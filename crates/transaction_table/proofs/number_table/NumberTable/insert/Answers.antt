@@ -1,0 +1,17 @@
+use Rattle.std.proofs.Common.{◌≡◌, refl, ap, sym, subst, ◌∙◌}
+use Rattle.std.specs.Prelude.{Some, None, is_some, unwrap_or, if◌then◌else◌}
+use Rattle.std.specs.Ordering.{nat_cmp}
+use Rattle.std.specs.Cmp.Lexicographic.{slice_cmp}
+use Rattle.std.specs.FinMap as map
+use Rattle.ordered_tables.proofs.Trees.{seen_empty}
+use Rattle.transaction_table.proofs.NumberMaps.{numbered_of, numbered_get, numbered_insert, numbered_set, numbered_remove, numbered_len, numbered_entries}
+use Rattle.transaction_table.proofs.number_table.NumberTable.insert.Goals as goal
+
+pub returns-clause-before : goal.returns-clause-before
+returns-clause-before g c =
+    c.in_ok-insert.ensures.old ∙ sym (numbered_get c.args.key c.self.inside.tree.entries c.self.invariant) ∙ ap (λ m. map.get m c.args.key) c.self.view_is
+
+pub returns-clause-ok : goal.returns-clause-ok
+returns-clause-ok g c =
+    numbered_insert c.args.key c.args.value c.self.inside.tree.entries c.insert.new.self.entries c.self.invariant c.insert.ensures.ordered c.in_ok-insert.ensures.entries
+    ∙ ap (λ m. map.insert m c.args.key c.args.value) c.self.view_is

@@ -1,0 +1,4 @@
+pub mod Codes
+pub mod Outboxes
+pub mod Sends
+pub mod Tables
