@@ -1,0 +1,3 @@
+pub mod Makers
+pub mod Readers
+pub mod Wholes

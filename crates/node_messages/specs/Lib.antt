@@ -1,0 +1,7 @@
+pub mod Assembling
+pub mod Found
+pub mod Laws
+pub mod Making
+pub mod Reading
+pub mod Signed
+pub mod Taking
