@@ -7,15 +7,13 @@ use Rattle.std.proofs.lemmas.List.{append-nil}
 use Rattle.std.proofs.lemmas.Bool.Decides.{nat_tests}
 use Rattle.text_words.specs.Lines.{ended}
 use Rattle.data_models.specs.declared.config.Config.{Config}
-use Rattle.data_models.specs.declared.config.DataModel.{DataModel}
-use Rattle.data_models.specs.declared.config.DataModel.TheVariants.{Single}
-use Rattle.data_models.specs.declared.config.KindDef.{KindDef}
-use Rattle.data_models.specs.Configs.{IsConfig, AreDistinct, kind_of, model_in}
+use Rattle.data_models.specs.Configs.{IsConfig}
 use Rattle.storage_model.specs.declared.request.Asked.{Asked}
 use Rattle.storage_model.specs.declared.request.Asked.TheVariants as asked
 use Rattle.storage_model.specs.Decisions.{Decision, kinds_of, IsLegalFrom}
 use Rattle.storage_model.specs.Laws.{IsSoundAsked, IsSound, AreSound}
 use Rattle.storage_model.proofs.Counters.{counters_bounded}
+use Rattle.storage_model.proofs.Models.{models_agree}
 use Rattle.scenario_text.specs.declared.scenario.Scenario.{Scenario}
 use Rattle.transcript_text.specs.Transcript.{refused_line}
 use Rattle.overlay_command.specs.declared.desk.Desk.{Desk}
@@ -24,34 +22,6 @@ use Rattle.overlay_command.specs.Desks.{Done, quiet, then_on, delivered, hearing
 use Rattle.overlay_command.specs.Bounds.{model_under, AreKeysOf, IsSoundRequest, AreSoundRequests, IsSteady}
 
 -- ---- sound decisions
-
--- the model of the first kind with a Kind-ID
-abbrev model_among : List KindDef → ℕ → DataModel
-model_among kinds id = unwrap_or (option_map (λ (k : KindDef). k.model) (find (λ (k : KindDef). eqb k.id id) kinds)) Single
-
-model_among-here : (kind : KindDef) (kinds : List KindDef) → kind.model ≡ model_among (kind ∷ kinds) kind.id
-model_among-here kind kinds =
-    let same : eqb kind.id kind.id ≡ true = grind (arith, nat_tests) in
-    ap (λ b. unwrap_or (option_map (λ (k : KindDef). k.model) (cond b (Some kind) (find (λ (k : KindDef). eqb k.id kind.id) kinds))) Single) (sym same)
-
-model_among-behind : (kind : KindDef) (kinds : List KindDef) (id : ℕ) → (id ≡ kind.id → ⊥) → model_among kinds id ≡ model_among (kind ∷ kinds) id
-model_among-behind kind kinds id apart =
-    let other : eqb kind.id id ≡ false = grind (arith, nat_tests) in
-    ap (λ b. unwrap_or (option_map (λ (k : KindDef). k.model) (cond b (Some kind) (find (λ (k : KindDef). eqb k.id id) kinds))) Single) (sym other)
-
-agree_behind : (kind : KindDef) (kinds all : List KindDef) → AllByRecursion (λ (k : KindDef). k.id ≡ kind.id → ⊥) all
-    → AllByRecursion (λ (k : KindDef). k.model ≡ model_among kinds k.id) all → AllByRecursion (λ (k : KindDef). k.model ≡ model_among (kind ∷ kinds) k.id) all
-agree_behind kind kinds [] apart agree = tt
-agree_behind kind kinds (k ∷ all) apart agree = (agree.0 ∙ model_among-behind kind kinds k.id apart.0, agree_behind kind kinds all apart.1 agree.1)
-
-agree_among : (kinds : List KindDef) → AreDistinct kinds → AllByRecursion (λ (k : KindDef). k.model ≡ model_among kinds k.id) kinds
-agree_among [] apart = tt
-agree_among (kind ∷ kinds) apart = (model_among-here kind kinds, agree_behind kind kinds kinds apart.0 (agree_among kinds apart.1))
-
--- each kind of a configuration has the model that is found under its Kind-ID
-models_agree : (config : Config) → IsConfig config → AllByRecursion (λ (kind : KindDef). kind.model ≡ model_under config kind.id) config.kinds
-unfolding model_in kind_of
-models_agree config is = agree_among config.kinds is.distinct
 
 sound_asked : (config : Config) (request : Asked) → IsSoundRequest config request → IsSoundAsked config request
 sound_asked config asked.Bad is = tt
@@ -109,7 +79,7 @@ hears_one s desk at i steady is =
         configured = steady.configured;
         paired = length-set desk.heard at true ∙ steady.paired;
         sound = steady.sound;
-        within = λ r. unfold decision_on in counters_bounded (model_under s.config) desk.shelf (decision_on s desk i) desk.decisions r sound (steady.within r);
+        within = λ r. unfold decision_on in counters_bounded desk.shelf (decision_on s desk i) desk.decisions r sound.request (steady.within r);
       };
       requests = refl;
       clock = refl;

@@ -14,6 +14,7 @@ use Rattle.data_models.specs.declared.fetched.Specifier.{Specifier}
 use Rattle.data_models.specs.Stored.{stored_size}
 use Rattle.storage_model.specs.declared.request.Value.{Value}
 use Rattle.storage_model.specs.declared.request.AskedKind.{AskedKind}
+use Rattle.storage_model.specs.declared.request.AskedValues.TheVariants.{Known}
 use Rattle.storage_model.specs.declared.request.StoreAsked.{StoreAsked}
 use Rattle.storage_model.specs.declared.request.FetchAsked.{FetchAsked}
 use Rattle.storage_model.specs.declared.request.Asked.{Asked}
@@ -103,7 +104,7 @@ unfoldable pub kind_of_group : DeclaredNode → GroupWords → AskedKind
 kind_of_group client g = record {
   kind = g.kind;
   generation = g.generation;
-  values = Some (map (value_of client) g.values);
+  values = Known (map (value_of client) g.values);
 }
 
 -- a client's Store under the scenario's configuration; it is bad where it makes no sense

@@ -15,7 +15,7 @@ use request_words::{Data, DeclaredNode, GroupWords, ResourceName, SpecifierWord,
 use scenario_text::{FetchEvent, StoreEvent};
 use security_block::About;
 use std::alloc::Global;
-use storage_model::{Asked, AskedKind, FetchAsked, StoreAsked, Value};
+use storage_model::{Asked, AskedKind, AskedValues, FetchAsked, StoreAsked, Value};
 use wire_core::{Signature, SignerIdentity, Spell};
 
 /// The Resource-ID that a scenario names.
@@ -146,7 +146,7 @@ fn kind_of_group(
     Ok(AskedKind {
         kind: group.kind,
         generation: group.generation,
-        values: Some(values_of(alloc, client, group.values.as_slice())?),
+        values: AskedValues::Known(values_of(alloc, client, group.values.as_slice())?),
     })
 }
 

@@ -11,15 +11,15 @@ use crate::slot::SlotState;
 use data_models::SlotKey;
 use reload_base::{NoMemory, TryCopy};
 use std::alloc::Global;
-use storage_model::{AskedKind, Held, Value};
+use storage_model::{AskedKind, AskedValues, Held, Value};
 
-/// The values of a kind, none where the kind is unknown.
+/// The values of a kind, none where the configuration lacks the kind.
 pub fn values_in(asked: &AskedKind) -> &[Value]
     ensures { result.now ≡ values_of asked.now }
 {
     match &asked.values {
-        Some(values) => values.as_slice(),
-        None => &[],
+        AskedValues::Known(values) => values.as_slice(),
+        AskedValues::Raw(_) => &[],
     }
 }
 

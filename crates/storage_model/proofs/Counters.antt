@@ -4,7 +4,6 @@ use Rattle.std.proofs.lemmas.Bool.{cases_eq, ltb-false}
 use Rattle.std.specs.Option.{option_map_or}
 use Rattle.reload_ids.specs.declared.NodeId.{NodeId}
 use Rattle.data_models.specs.declared.config.Config.{Config}
-use Rattle.data_models.specs.declared.config.DataModel.{DataModel}
 use Rattle.storage_model.specs.declared.limits.TheConstants.{MAX_WEIGHT}
 use Rattle.storage_model.specs.declared.record.Kept.{Kept}
 use Rattle.storage_model.specs.declared.refusal.Refusal.{Refusal}
@@ -21,7 +20,7 @@ use Rattle.storage_model.specs.Puts.{kind_after, kinds_after}
 use Rattle.storage_model.specs.Verdict.{outcome_of, decided, repeated, refused, accepted, is_traceless, store_causes, noted, told}
 use Rattle.storage_model.specs.Fetches.{fetch_verdict}
 use Rattle.storage_model.specs.Decisions.{Decision, effect_of, effect_on, map_after, kinds_of, joined, found, with_joined, join_causes}
-use Rattle.storage_model.specs.Laws.{IsSound, IsSoundAsked, IsWithin}
+use Rattle.storage_model.specs.Laws.{IsSoundAsked, IsWithin}
 use Rattle.storage_model.proofs.KindLaws.{AreApart, asked_for, kind_with, kind_in-fold, kind_in-all_swept}
 use Rattle.storage_model.proofs.Effects.{after, Stays, Accepts, effect_is, record_in-same, record_in-other}
 use Rattle.storage_model.proofs.Causes.{causeless}
@@ -86,8 +85,8 @@ generations m d n s h kind =
 within_more : (n : ℕ) (x : Record) → IsWithin n x → IsWithin (n + 1) x
 within_more n x h = record { turn = within_stays x.turn x.turn n refl h.turn; generations = λ kind. within_stays _ _ n refl (h.generations kind) }
 
-pub counters_bounded : (models : ℕ → DataModel) (m : Map) (d : Decision) (n r : ℕ) → IsSound models d → IsWithin n (record_in m r) → IsWithin (n + 1) (record_in (map_after m d) r)
-counters_bounded models m d n r s h =
+pub counters_bounded : (m : Map) (d : Decision) (n r : ℕ) → IsSoundAsked d.config d.asked → IsWithin n (record_in m r) → IsWithin (n + 1) (record_in (map_after m d) r)
+counters_bounded m d n r s h =
     ⊎_elim
     (λ (e : d.resource ≡ r).
     let at : IsWithin n (record_in m d.resource) = subst (λ i. IsWithin n (record_in m i)) (sym e) h in
@@ -95,7 +94,7 @@ counters_bounded models m d n r s h =
     (subst (IsWithin (n + 1)) (sym (record_in-same m d.resource (effect_on m d).next))
     (record {
       turn = no_more _ (record_in m d.resource).turn n (turn_of d.config d.time d.resource (record_in m d.resource) d.origin d.id d.asked) at.turn;
-      generations = generations m d n s.request at.generations;
+      generations = generations m d n s at.generations;
     })))
     (λ (o : d.resource ≢ r). subst (IsWithin (n + 1)) (sym (record_in-other m d.resource (effect_on m d).next r (λ e. o (sym e)))) (within_more n (record_in m r) h))
     (cases_eq d.resource r)

@@ -17,5 +17,6 @@ pub mod Lasts
 pub mod AppendLaw
 pub mod Acting
 pub mod Counters
+pub mod Models
 pub mod Permitted
 pub mod Whole

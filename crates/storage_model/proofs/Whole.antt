@@ -10,7 +10,8 @@ use Rattle.storage_model.specs.declared.request.StoreAsked.{StoreAsked}
 use Rattle.storage_model.specs.Records.{Map, record_in, slot_in, kept_for}
 use Rattle.storage_model.specs.Refusals.{first_cause}
 use Rattle.storage_model.specs.Verdict.{outcome_of, decided, repeated, store_causes}
-use Rattle.storage_model.specs.Decisions.{Decided, Effect, Decision, only, stored, changed, effect_of, effect_on, map_after, IsOnce}
+use Rattle.storage_model.specs.declared.answer.Answer.TheVariants.{Decided}
+use Rattle.storage_model.specs.Decisions.{Effect, Decision, only, stored, changed, effect_of, effect_on, map_after, IsOnce}
 use Rattle.storage_model.specs.Laws.{AreSound, map_of, kind_at}
 use Rattle.storage_model.proofs.OnceLaw.{rises_from, floors_from, map_from-append, sound_front, indexes_from, empty_indexes}
 use Rattle.storage_model.proofs.AppendLaw.{appends_from, append_floors_from}

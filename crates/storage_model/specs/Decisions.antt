@@ -4,7 +4,8 @@ use Rattle.std.specs.List.{flat_map, AllByRecursion}
 use Rattle.std.specs.FinMap.{empty, insert}
 use Rattle.reload_ids.specs.declared.NodeId.{NodeId}
 use Rattle.data_models.specs.declared.config.Config.{Config}
-use Rattle.data_models.specs.declared.fetched.StoreKind.{StoreKind}
+use Rattle.storage_model.specs.declared.answer.Answer.{Answer}
+use Rattle.storage_model.specs.declared.answer.Answer.TheVariants.{Decided, Found, Joined}
 use Rattle.storage_model.specs.declared.record.Held.{Held}
 use Rattle.storage_model.specs.declared.request.AskedKind.{AskedKind}
 use Rattle.storage_model.specs.declared.request.JoinAsked.{JoinAsked}
@@ -20,13 +21,6 @@ use Rattle.storage_model.specs.Requests.{values_of, placed, appended, groups_of,
 use Rattle.storage_model.specs.Puts.{ValuesAt, held_of, at_keys, at_end, put_all}
 use Rattle.storage_model.specs.Verdict.{Outcome, outcome_of}
 use Rattle.storage_model.specs.Fetches.{fetch_verdict}
-
--- the answer of a decision: a code, 0 for ok, with generation counters; the values of a Fetch; or
--- that a joiner is admitted
-pub data Answer : Type 0 where
-  Decided : (code : ℕ) (counters : List (ℕ × ℕ)) → Answer
-  Found : (kinds : List StoreKind) → Answer
-  Joined : Answer
 
 -- a decision: which peer, at which clock in ms, under which configuration, on which resource, for
 -- which origin and transaction id, on what, with what answer

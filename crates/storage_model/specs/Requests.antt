@@ -1,5 +1,5 @@
 -- What a request asks for, and when it makes sense (RFC 6940, 7.4).
-use Rattle.std.specs.Prelude.{ℕ, ◌==◌, ◌&&◌, ◌||◌, Bool, true, false, not, List, [], ◌∷◌, length, map, filter, unwrap_or, nat_le}
+use Rattle.std.specs.Prelude.{ℕ, ◌==◌, ◌&&◌, ◌||◌, Bool, true, false, not, List, [], ◌∷◌, length, map, filter, nat_le}
 use Rattle.std.specs.Option.{option_map_or}
 use Rattle.std.specs.List.{list_any, list_all}
 use Rattle.std.specs.Ordering.{nat_cmp, is_eq}
@@ -17,12 +17,19 @@ use Rattle.data_models.specs.Configs.{kind_of}
 use Rattle.data_models.specs.Stored.{key_of}
 use Rattle.storage_model.specs.declared.request.Value.{Value}
 use Rattle.storage_model.specs.declared.request.AskedKind.{AskedKind}
+use Rattle.storage_model.specs.declared.request.AskedValues.{AskedValues}
+use Rattle.storage_model.specs.declared.request.AskedValues.TheVariants.{Known, Raw}
 use Rattle.storage_model.specs.declared.request.StoreAsked.{StoreAsked}
 use Rattle.storage_model.specs.declared.request.FetchAsked.{FetchAsked}
 
--- the values of a kind, none where the kind is unknown
+-- the values that are known: of a kind that the configuration lacks none are
+abbrev pub known_values : AskedValues → List Value
+known_values (Known values) = values
+known_values (Raw bytes) = []
+
+-- the values of a kind, none where the configuration lacks the kind
 abbrev pub values_of : AskedKind → List Value
-values_of asked = unwrap_or asked.values []
+values_of asked = known_values asked.values
 
 -- whether a Store puts a value of this kind
 unfoldable pub puts : AskedKind → Bool

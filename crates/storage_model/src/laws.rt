@@ -6,6 +6,7 @@ ghost use Rattle.std.specs.FinMap.{empty};
 ghost use Rattle.data_models.specs.declared.config.DataModel.{DataModel};
 ghost use Rattle.data_models.specs.declared.stored_data.SlotKey.{SlotKey};
 ghost use Rattle.data_models.specs.Stored.{key_of};
+ghost use Rattle.storage_model.specs.declared.answer.Answer.TheVariants.{Decided};
 ghost use Rattle.storage_model.specs.declared.limits.TheConstants.{MAX_WEIGHT};
 ghost use Rattle.storage_model.specs.declared.record.Held.{Held};
 ghost use Rattle.storage_model.specs.declared.record.Kept.{Kept};
@@ -13,8 +14,8 @@ ghost use Rattle.storage_model.specs.declared.request.Asked.TheVariants.{Store};
 ghost use Rattle.storage_model.specs.declared.request.StoreAsked.{StoreAsked};
 ghost use Rattle.storage_model.specs.Records.{Map, record_in, slot_in, kept_for, weight};
 ghost use Rattle.storage_model.specs.Fetches.{given_for};
-ghost use Rattle.storage_model.specs.Decisions.{Decided, Decision, only, map_after, effect_on, puts_from, puts_in, IsOnce};
-ghost use Rattle.storage_model.specs.Laws.{IsKeyOf, IsSound, AreSound, IsWithin, WasPermitted, map_of, kind_at, last_put};
+ghost use Rattle.storage_model.specs.Decisions.{Decision, only, map_after, effect_on, puts_from, puts_in, IsOnce};
+ghost use Rattle.storage_model.specs.Laws.{IsKeyOf, IsSoundAsked, AreSound, IsWithin, WasPermitted, map_of, kind_at, last_put};
 
 /// No Store acts twice, whatever comes in whichever order, and the storage times that are accepted
 /// in one slot or appended to one array rise strictly.
@@ -24,7 +25,7 @@ pub fn stores_act_once()
 
 /// The turn and the generation counters of a record rise by one at most at a decision.
 pub fn decisions_bound_counters()
-    ensures { (models : ℕ → DataModel) (m : Map) (d : Decision) (n resource : ℕ) → IsSound models d
+    ensures { (m : Map) (d : Decision) (n resource : ℕ) → IsSoundAsked d.config d.asked
         → IsWithin n (record_in m resource)
         → IsWithin (n + 1) (record_in (map_after m d) resource) }
 {}

@@ -1,7 +1,7 @@
 //! Requests as they were read.
 
 use data_models::{Specifier, StoredData};
-use reload_base::List;
+use reload_base::{Bytes, List};
 use security_block::About;
 
 /// A value of a Store.
@@ -15,6 +15,15 @@ pub struct Value {
     pub size: u32,
 }
 
+/// The values of a kind of a Store.
+#[derive(Debug, Drop)]
+pub enum AskedValues {
+    /// Those of a kind that the configuration defines.
+    Known(List<Value>),
+    /// The bytes of the values of a kind that the configuration lacks.
+    Raw(Bytes),
+}
+
 /// A kind of a Store.
 #[derive(Debug, Drop)]
 pub struct AskedKind {
@@ -22,8 +31,7 @@ pub struct AskedKind {
     pub kind: u32,
     /// The generation counter that is asked for, or 0 for any.
     pub generation: u64,
-    /// None for a kind that the configuration lacks.
-    pub values: Option<List<Value>>,
+    pub values: AskedValues,
 }
 
 /// A Store (RFC 6940, section 7.4.1).

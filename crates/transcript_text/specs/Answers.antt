@@ -1,6 +1,7 @@
 -- The answer that a told one is.
 use Rattle.std.specs.Prelude.{[]}
-use Rattle.storage_model.specs.Decisions.{Answer, Decided, Found, Joined}
+use Rattle.storage_model.specs.declared.answer.Answer.{Answer}
+use Rattle.storage_model.specs.declared.answer.Answer.TheVariants.{Decided, Found, Joined}
 use Rattle.storage_model.specs.Refusals.{error_code}
 use Rattle.storage_model.specs.declared.verdict.FetchVerdict.TheVariants.{Values, Refused}
 use Rattle.transcript_text.specs.declared.answer.Told.{Told}

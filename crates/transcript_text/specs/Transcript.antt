@@ -13,6 +13,8 @@ use Rattle.data_models.specs.declared.fetched.Specifier.{Specifier}
 use Rattle.data_models.specs.declared.fetched.StoreKind.{StoreKind}
 use Rattle.data_models.specs.declared.fetched.KindValues.{KindValues}
 use Rattle.data_models.specs.declared.fetched.KindValues.TheVariants.{Known, Raw}
+use Rattle.storage_model.specs.declared.request.AskedValues.{AskedValues}
+use Rattle.storage_model.specs.declared.request.AskedValues.TheVariants as group
 use Rattle.storage_model.specs.declared.request.Value.{Value}
 use Rattle.storage_model.specs.declared.request.AskedKind.{AskedKind}
 use Rattle.storage_model.specs.declared.request.StoreAsked.{StoreAsked}
@@ -20,8 +22,9 @@ use Rattle.storage_model.specs.declared.request.FetchAsked.{FetchAsked}
 use Rattle.storage_model.specs.declared.request.JoinAsked.{JoinAsked}
 use Rattle.storage_model.specs.declared.request.Asked.{Asked}
 use Rattle.storage_model.specs.declared.request.Asked.TheVariants as asked
-use Rattle.storage_model.specs.Requests.{values_of}
-use Rattle.storage_model.specs.Decisions.{Answer, Decided, Found, Joined, Decision}
+use Rattle.storage_model.specs.declared.answer.Answer.{Answer}
+use Rattle.storage_model.specs.declared.answer.Answer.TheVariants.{Decided, Found, Joined}
+use Rattle.storage_model.specs.Decisions.{Decision}
 use Rattle.request_words.specs.declared.data.Data.{Data}
 use Rattle.request_words.specs.declared.data.Data.TheVariants.{Nonexistent, Bytes}
 use Rattle.request_words.specs.declared.node.DeclaredNode.{DeclaredNode}
@@ -82,10 +85,14 @@ asked_value nodes v =
       size = v.size;
     })
 
+-- the values that are asked for, and the bytes of those of a kind without a definition
+abbrev pub asked_values : List DeclaredNode → AskedValues → List ℕ
+asked_values nodes (group.Known values) = flat_map (spaced_by (asked_value nodes)) values
+asked_values nodes (group.Raw bytes) = spaced (raw_text bytes)
+
 -- kind=ID/GEN and its values
 unfoldable pub asked_kind : List DeclaredNode → AskedKind → List ℕ
-asked_kind nodes a =
-    head_text a.kind a.generation ++ flat_map (spaced_by (asked_value nodes)) (values_of a)
+asked_kind nodes a = head_text a.kind a.generation ++ asked_values nodes a.values
 
 -- KIND/GEN[:SEL]
 abbrev pub asked_specifier : Specifier → List ℕ

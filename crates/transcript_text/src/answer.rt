@@ -3,13 +3,12 @@
 ghost use Rattle.std.specs.Prelude.{◌≡◌, ◌++◌};
 ghost use Rattle.std.specs.List.{flat_map};
 ghost use Rattle.text_words.specs.Codec.{Appended, AppendedSome};
-ghost use Rattle.text_words.specs.Lines.{ended, spaced, spaced_by};
-ghost use Rattle.request_words.specs.Raw.{raw_text};
+ghost use Rattle.text_words.specs.Lines.{ended, spaced_by};
 ghost use Rattle.transcript_text.specs.Answers.{answer_of};
 ghost use Rattle.transcript_text.specs.Transcript.{answer_line, answer_text, code_text, found_kind, found_values};
 ghost use Rattle.transcript_text.specs.Words.{counter_text};
 
-use crate::value::{put_all_stored, put_head, put_raw};
+use crate::value::{put_all_stored, put_head, put_next_raw};
 use data_models::{KindValues, StoreKind};
 use reload_base::{Bytes, NoMemory};
 use storage_model::{FetchVerdict, Refusal, StoreVerdict};
@@ -72,13 +71,6 @@ fn put_decided(out: &mut Bytes, code: u16, counters: &[(u32, u64)]) -> Result<()
 {
     put_code(out, code)?;
     put_counters(out, counters)
-}
-
-fn put_next_raw(out: &mut Bytes, bytes: &[u8]) -> Result<(), NoMemory>
-    ensures { AppendedSome out.old out.new (spaced (raw_text bytes.now)) result }
-{
-    out.extend(b" ")?;
-    put_raw(out, bytes)
 }
 
 // Appends kind=ID/GEN and the values that were found.

@@ -10,15 +10,17 @@ ghost use Rattle.transcript_text.specs.Words.{number_text};
 ghost use Rattle.request_words.specs.Specifiers.{counted_text, selection_text, selector_text};
 ghost use Rattle.transcript_text.specs.Transcript.{asked_kind, asked_specifier, asker_text, fetch_text, join_text, number_of, request_text, store_text, strange_text};
 
-use crate::value::{number_of, put_asked_values, put_head, put_number, put_raw, put_slashed};
+use crate::value::{
+    number_of, put_asked_values, put_head, put_next_raw, put_number, put_raw, put_slashed,
+};
 use data_models::{Selector, Specifier};
 use reload_base::{Bytes, NoMemory};
 use reload_ids::NodeId;
 use request_words::DeclaredNode;
-use storage_model::{Asked, AskedKind, FetchAsked, JoinAsked, StoreAsked};
+use storage_model::{Asked, AskedKind, AskedValues, FetchAsked, JoinAsked, StoreAsked};
 use text_words::{put_key_names, put_labelled, put_ranges, put_transaction};
 
-// Appends kind=ID/GEN and the values.
+// Appends kind=ID/GEN and the values, or the bytes of those of a kind without a definition.
 #[tactic(auto, unfolding(crate::specs::Transcript::asked_kind))]
 fn put_asked_kind(
     out: &mut Bytes,
@@ -29,8 +31,8 @@ fn put_asked_kind(
 {
     put_head(out, asked.kind, asked.generation)?;
     match &asked.values {
-        None => Ok(()),
-        Some(values) => put_asked_values(out, nodes, values.as_slice()),
+        AskedValues::Known(values) => put_asked_values(out, nodes, values.as_slice()),
+        AskedValues::Raw(bytes) => put_next_raw(out, bytes.as_slice()),
     }
 }
 

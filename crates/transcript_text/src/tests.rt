@@ -9,7 +9,8 @@ use security_block::About;
 use std::alloc::Global;
 use std::test::Fail;
 use storage_model::{
-    Asked, AskedKind, FetchAsked, FetchVerdict, JoinAsked, Refusal, StoreAsked, StoreVerdict, Value,
+    Asked, AskedKind, AskedValues, FetchAsked, FetchVerdict, JoinAsked, Refusal, StoreAsked,
+    StoreVerdict, Value,
 };
 use wire_core::{Signature, SignerIdentity};
 
@@ -76,7 +77,7 @@ fn a_decided_store(rt: HostRuntime) -> Result<(), Fail> {
     let kind = AskedKind {
         kind: 257,
         generation: 0,
-        values: Some(one(rt.alloc(), value)?),
+        values: AskedValues::Known(one(rt.alloc(), value)?),
     };
     let asked = Asked::Store(StoreAsked {
         strange: true,
@@ -148,6 +149,28 @@ fn a_kind_without_a_definition(rt: HostRuntime) -> Result<(), Fail> {
     let told = Told::Fetch(FetchVerdict::Values(one(rt.alloc(), kind)?));
     let line = b"decide 1 0 00000000000000000000000000000001 fetch 2 2.1 max=0 \
         9/4:?00ff -> kind=9/5 ?6869\n";
+    assert_eq!(rt;
+        line_of(rt.alloc(), &asked, &told)?.as_slice(),
+        line.as_slice()
+    );
+    Ok(())
+}
+
+#[test]
+fn a_store_without_a_definition(rt: HostRuntime) -> Result<(), Fail> {
+    let kind = AskedKind {
+        kind: 9,
+        generation: 4,
+        values: AskedValues::Raw(Bytes::from_slice(rt.alloc(), b"\x00\xff")?),
+    };
+    let asked = Asked::Store(StoreAsked {
+        strange: false,
+        sequence: 1,
+        kinds: one(rt.alloc(), kind)?,
+    });
+    let told = Told::Refused(Refusal::UnknownKind);
+    let line = b"decide 1 0 00000000000000000000000000000001 store 2 2.1 kind=9/4 ?00ff \
+        -> error 12\n";
     assert_eq!(rt;
         line_of(rt.alloc(), &asked, &told)?.as_slice(),
         line.as_slice()

@@ -4,7 +4,7 @@ ghost use Rattle.std.specs.Prelude.{◌≡◌, ◌==◌, ◌++◌, codes, find};
 ghost use Rattle.std.specs.Fmt.{decimal};
 ghost use Rattle.std.specs.Option.{option_copied};
 ghost use Rattle.text_words.specs.Codec.{AppendedSome};
-ghost use Rattle.text_words.specs.Lines.{spaced_by};
+ghost use Rattle.text_words.specs.Lines.{spaced, spaced_by};
 ghost use Rattle.std.specs.List.{flat_map};
 ghost use Rattle.request_words.specs.Groups.{head_text};
 ghost use Rattle.request_words.specs.Raw.{raw_text};
@@ -213,4 +213,12 @@ pub fn put_raw(out: &mut Bytes, bytes: &[u8]) -> Result<(), NoMemory>
 {
     out.extend(b"?")?;
     put_hex(out, bytes)
+}
+
+/// Appends them as a word of their own, behind a space.
+pub fn put_next_raw(out: &mut Bytes, bytes: &[u8]) -> Result<(), NoMemory>
+    ensures { AppendedSome out.old out.new (spaced (raw_text bytes.now)) result }
+{
+    out.extend(b" ")?;
+    put_raw(out, bytes)
 }
