@@ -9,6 +9,19 @@ use reload_base::{Bytes, NoMemory, TryCopy};
 use std::alloc::Global;
 use wire_core::{Cursor, DecodeFault, Layout, Spell, put_bytes, put_u8, take_bytes};
 
+/// The flag of an option that who forwards a request must know (RFC 6940, section 6.3.2.3; the numbers
+/// of the three flags, this profile).
+pub const FORWARD_CRITICAL: u8 = 0x01;
+
+/// The flag of an option that the destination of a request must know.
+pub const DESTINATION_CRITICAL: u8 = 0x02;
+
+/// The flag of an option that the answer to its request has too.
+pub const RESPONSE_COPY: u8 = 0x04;
+
+/// All flags but those three.
+pub const OTHER_FLAGS: u8 = 0xf8;
+
 /// An option of a header (RFC 6940, section 6.3.2.3). No code is known here, so each is kept as it
 /// stands.
 #[derive(Debug, Drop)]

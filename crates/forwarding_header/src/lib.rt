@@ -9,7 +9,9 @@ mod way_back;
 
 pub use decode::{decode_header, entries_are_layouts, one_form};
 pub use destination::{Destination, MAX_OPAQUE};
-pub use forwarding_option::ForwardingOption;
+pub use forwarding_option::{
+    DESTINATION_CRITICAL, FORWARD_CRITICAL, ForwardingOption, OTHER_FLAGS, RESPONSE_COPY,
+};
 pub use header::{Header, MAX_HEADER_LIST, encode_header, fits};
 pub use way_back::reversed;
 

@@ -16,6 +16,6 @@ pub use record::Record;
 pub use shelf::Shelf;
 pub use soundness::{sound, sound_fetch};
 pub use storage_model::{
-    Asked, AskedKind, FetchAsked, FetchVerdict, Held, JoinAsked, Kept, KindRecord, Refusal, Slot,
-    StoreAsked, StoreVerdict, Value,
+    Asked, AskedKind, AskedValues, FetchAsked, FetchVerdict, Held, JoinAsked, Kept, KindRecord,
+    Refusal, Slot, StoreAsked, StoreVerdict, Value,
 };

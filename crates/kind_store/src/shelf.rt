@@ -220,6 +220,14 @@ impl Shelf {
         }
     }
 
+    /// The number of records.
+    pub fn len(&self) -> usize
+        ensures value { result ≡ map.len self.now }
+        ensures small { result < 2 ^ 63 }
+    {
+        self.table.len()
+    }
+
     /// The resources whose turn isn't 0, rising.
     #[tactic(auto, unfolding(crate::specs::Written::written))]
     pub fn resources(&self, alloc: Global) -> Result<List<ResourceId>, NoMemory>

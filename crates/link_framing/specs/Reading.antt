@@ -1,7 +1,8 @@
 -- Reading a frame from the front of what is held of a stream.
-use Rattle.std.specs.Prelude.{ℕ, List, ◌==◌, if◌then◌else◌}
+use Rattle.std.specs.Prelude.{ℕ, List, ◌==◌, Option, if◌then◌else◌}
+use Rattle.std.specs.Result.{result_ok}
 use Rattle.wire_core.specs.declared.bad.Reason.TheVariants.{BadValue}
-use Rattle.wire_core.specs.Reading.{Reader, ◌>>=◌, done, refused, place_at, rest_at, number_at, limited_at, filled_at, pair_at}
+use Rattle.wire_core.specs.Reading.{Reader, ◌>>=◌, done, refused, place_at, rest_at, number_at, limited_at, filled_at, pair_at, whole_of}
 use Rattle.wire_core.specs.declared.limits.TheConstants.{MAX_MESSAGE}
 use Rattle.link_framing.specs.declared.frame.Frame.{Frame}
 use Rattle.link_framing.specs.declared.frame.Frame.TheVariants.{Payload, Ack}
@@ -31,3 +32,7 @@ frame_at = do
   place ← place_at
   code ← number_at 1
   (if code == 128 then payload_at else (if code == 129 then ack_at else refused place BadValue))
+
+-- the frame that bytes are, where they are exactly one frame
+unfoldable pub only_frame : List ℕ → Option Frame
+only_frame bytes = result_ok (whole_of frame_at bytes)

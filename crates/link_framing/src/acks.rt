@@ -60,7 +60,8 @@ impl Acks {
         Ok(self.mask(n))
     }
 
-    fn add(&mut self, n: u32) -> Result<(), NoMemory>
+    /// Payload `n` was heard. After `NoMemory` the set is as before.
+    pub fn add(&mut self, n: u32) -> Result<(), NoMemory>
         ensures ok { OnOk result (self.new ≡ set.insert self.old n) }
         ensures err { OnErr result (self.new ≡ self.old) }
     {

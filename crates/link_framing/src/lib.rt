@@ -6,6 +6,7 @@ mod frame;
 mod front;
 mod laws;
 mod layout;
+mod only;
 mod reader;
 #[cfg(test)]
 mod tests;
@@ -14,4 +15,5 @@ pub use acks::Acks;
 pub use frame::{Frame, FrameFault, FrameView, encode_frame};
 pub use front::first_frame;
 pub use laws::{any_cutting, faults_stay, fed_is_taken_and_held, frames_are_layouts, one_reading};
+pub use only::only_frame;
 pub use reader::FrameReader;

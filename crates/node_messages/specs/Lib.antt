@@ -1,4 +1,5 @@
 pub mod Assembling
+pub mod Behind
 pub mod Found
 pub mod Laws
 pub mod Making

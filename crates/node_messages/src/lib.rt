@@ -8,6 +8,6 @@ mod reading;
 mod signed;
 
 pub use laws::{one_message, what_is_made_is_read_as_its_makers};
-pub use making::make_message;
-pub use message::Message;
-pub use reading::read_message;
+pub use making::{header_len, make_message};
+pub use message::{Behind, Message};
+pub use reading::{read_contents, read_message};

@@ -23,9 +23,9 @@ use wire_core::{MAX_MESSAGE, Signature, SignerIdentity, Spell, list_len};
 /// The bytes of a header without its lists.
 const FIXED: u64 = 38;
 
-/// The number of bytes of a header.
+/// The number of bytes of a header, or `u64::MAX` where there are more.
 #[tactic(auto, using(wire_core::proofs::Puts::lengths), unfolding(forwarding_header::specs::Header::fixed, forwarding_header::specs::Header::lists))]
-fn header_len(h: &Header) -> u64
+pub fn header_len(h: &Header) -> u64
     ensures { result ≡ min (length (header h.now)) (2 ^ 64 - 1) }
 {
     FIXED

@@ -1,5 +1,8 @@
 //! What is read of a message.
 
+ghost use Rattle.std.specs.Prelude.{◌≡◌};
+ghost use Rattle.node_messages.specs.Behind.{message_of};
+
 use forwarding_header::Header;
 use message_bodies::Contents;
 use reload_base::List;
@@ -24,4 +27,37 @@ pub enum Message {
         /// Whom the first certificate is about with which the signature verifies.
         signer: Option<About>,
     },
+}
+
+/// What a node reads behind a header and a message code.
+#[derive(Debug, Drop)]
+pub enum Behind {
+    /// It isn't contents and a security block.
+    Bad,
+    /// Each part is as it should be.
+    Whole {
+        contents: Contents,
+        certificates: List<Certificate>,
+        /// Whom the first certificate is about with which the signature verifies.
+        signer: Option<About>,
+    },
+}
+
+/// The message that has a header, a message code and behind them this.
+pub(crate) fn message_of(header: Header, code: u16, behind: Behind) -> Message
+    ensures { result ≡ message_of header code behind }
+{
+    match behind {
+        Behind::Bad => Message::Bad { header, code },
+        Behind::Whole {
+            contents,
+            certificates,
+            signer,
+        } => Message::Whole {
+            header,
+            contents,
+            certificates,
+            signer,
+        },
+    }
 }

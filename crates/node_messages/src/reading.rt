@@ -1,18 +1,19 @@
 //! Reading messages.
 
-ghost use Rattle.std.specs.Prelude.{◌≡◌, ◌<◌, ◌^◌, ◌++◌, [], ◌∷◌, length, IfOk};
+ghost use Rattle.std.specs.Prelude.{◌≡◌, ◌<◌, ◌^◌, ◌++◌, [], ◌∷◌, length, IfOk, Ok};
 ghost use Rattle.wire_core.specs.Part.{part};
 ghost use Rattle.wire_core.specs.Reading.{Gives, value_of, whole_of, number_at};
 ghost use Rattle.wire_core.specs.Spelling.{number, joined};
 ghost use Rattle.message_bodies.specs.Contents.{contents};
 ghost use Rattle.message_bodies.specs.Messages.{message_at};
 ghost use Rattle.node_messages.specs.declared.message.Message.{Message};
+ghost use Rattle.node_messages.specs.Behind.{message_of};
 ghost use Rattle.node_messages.specs.Found.{IsFound};
 ghost use Rattle.node_messages.specs.Reading.{read, read_coded, read_parts};
 ghost use Rattle.node_messages.specs.Taking.{GivesParts};
 ghost use Rattle.node_messages.specs.Signed.{words_of, signed, signer_by};
 
-use crate::message::Message;
+use crate::message::{Behind, Message, message_of};
 use crate::signed::signed_front;
 use data_models::Config;
 use forwarding_header::{Header, decode_header};
@@ -79,6 +80,39 @@ fn signer_of_parts<G: Signer>(
     )
 }
 
+/// What a node with a configuration reads behind a header and its message code, and who signed it
+/// (RFC 6940, section 6.3). The code is the first two of the bytes, and the header isn't read again.
+pub fn read_contents<G: Signer>(
+    alloc: Global,
+    config: &Config,
+    signer: &G,
+    header: &Header,
+    code: u16,
+    behind: &[u8],
+) -> Result<Behind, NoMemory>
+    ensures { let words = words_of G.certificate_of G.signature_of G.about_of G.verifies signer.now
+        in IfOk result (λ r. message_of header.now code r
+        ≡ read_coded config.now words header.now behind.now (Ok code)) }
+{
+    match take_parts(alloc, config, behind) {
+        Ok(parts) => {
+            let signer = signer_of_parts(alloc, signer, header, &parts)?;
+            let Parts {
+                contents,
+                block,
+                ..
+            } = parts;
+            Ok(Behind::Whole {
+                contents,
+                certificates: block.certificates,
+                signer,
+            })
+        }
+        Err(DecodeFault::Bad(_)) => Ok(Behind::Bad),
+        Err(DecodeFault::NoMemory) => Err(NoMemory),
+    }
+}
+
 /// The parts of a message behind its header, and who signed it.
 fn read_behind<G: Signer>(
     alloc: Global,
@@ -94,24 +128,8 @@ fn read_behind<G: Signer>(
     let Ok(code) = Cursor::new(behind, 0).take_u16() else {
         return Ok(Message::Unspelt);
     };
-    match take_parts(alloc, config, behind) {
-        Ok(parts) => {
-            let signer = signer_of_parts(alloc, signer, &header, &parts)?;
-            let Parts {
-                contents,
-                block,
-                ..
-            } = parts;
-            Ok(Message::Whole {
-                header,
-                contents,
-                certificates: block.certificates,
-                signer,
-            })
-        }
-        Err(DecodeFault::Bad(_)) => Ok(Message::Bad { header, code }),
-        Err(DecodeFault::NoMemory) => Err(NoMemory),
-    }
+    let read = read_contents(alloc, config, signer, &header, code, behind)?;
+    Ok(message_of(header, code, read))
 }
 
 /// The same as `read_message`.

@@ -53,6 +53,14 @@ impl Table {
         }
     }
 
+    /// The number of requests outside the outboxes.
+    pub fn requests(&self) -> usize
+        ensures value { result ≡ maps.len self.now.issued }
+        ensures small { result < 2 ^ 63 }
+    {
+        self.issued.len()
+    }
+
     /// Queues a transaction to its peer, at a time in milliseconds: it is sent at once where the
     /// outbox was empty, which the result says, and waits otherwise. After `NoMemory` the table is
     /// as before.
