@@ -1,0 +1,10 @@
+pub mod Links
+pub mod Nodes
+pub mod Heard
+pub mod Ways
+pub mod Courses
+pub mod Askings
+pub mod Replies
+pub mod Peers
+pub mod Requests
+pub mod Clients
