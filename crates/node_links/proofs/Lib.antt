@@ -1,0 +1,5 @@
+pub mod Counted
+pub mod Framed
+pub mod Masks
+pub mod Payloads
+pub mod Tables

@@ -1,0 +1,8 @@
+//! Limits of nodes (this profile).
+
+/// The greatest number of a node.
+pub const MAX_NUMBER: u32 = 9_999;
+
+/// The most inputs, frames and transaction ids of a node, so that none of its counts overflows: a
+/// node that reached `MAX_LOAD` handles nothing more.
+pub const MAX_WORK: u64 = 269_484_032;
