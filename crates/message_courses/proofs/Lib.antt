@@ -1,0 +1,5 @@
+pub mod Sizes
+pub mod Lists
+pub mod Courses
+pub mod Own
+pub mod Messages

@@ -1,0 +1,4 @@
+pub mod Seen
+pub mod Heard
+pub mod Fits
+pub mod Owned
