@@ -1,0 +1,4 @@
+pub mod Sound
+pub mod Asked
+pub mod Signing
+pub mod Reactions
