@@ -1,0 +1,6 @@
+pub mod Sendings
+pub mod Undoings
+pub mod Counts
+pub mod Keeping
+pub mod Deciding
+pub mod Reacting

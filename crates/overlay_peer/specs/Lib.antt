@@ -1,0 +1,5 @@
+pub mod Memberships
+pub mod Codes
+pub mod Kept
+pub mod Plans
+pub mod Undoing
