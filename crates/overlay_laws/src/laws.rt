@@ -1,0 +1,82 @@
+//! Laws of a ring whose tables don't change, whatever is delivered, lost, repeated and asked in
+//! whichever order.
+
+ghost use Rattle.std.specs.Prelude.{◌≡◌, ◌≢◌, ℕ, ◌^◌, ◌<◌, true, List, Some};
+ghost use Rattle.std.specs.FinMap.{get};
+ghost use Rattle.reload_ids.specs.declared.NodeId.{NodeId};
+ghost use Rattle.reload_ids.specs.declared.ResourceId.{ResourceId};
+ghost use Rattle.reload_ids.specs.Ring.{distance};
+ghost use Rattle.chord_tables.specs.Tables.{Tables, owns};
+ghost use Rattle.ring_laws.specs.Members.{IsAmong, AreMembers, IsOwner, IsExact};
+ghost use Rattle.forwarding_header.specs.declared.header.Header.{Header};
+ghost use Rattle.data_models.specs.declared.config.Config.{Config};
+ghost use Rattle.data_models.specs.Configs.{IsConfig};
+ghost use Rattle.request_words.specs.declared.node.DeclaredNode.{DeclaredNode};
+ghost use Rattle.node_messages.specs.Signed.{SignerWords};
+ghost use Rattle.storage_model.specs.Records.{record_in};
+ghost use Rattle.storage_model.specs.Decisions.{IsLegal, IsOnce};
+ghost use Rattle.storage_model.specs.Laws.{map_of};
+ghost use Rattle.node_model.specs.declared.course.Course.TheVariants.{Owned, Forwarded};
+ghost use Rattle.node_model.specs.declared.peer_state.PeerState.TheVariants.{Member};
+ghost use Rattle.node_model.specs.Heard.{ttl_of};
+ghost use Rattle.node_model.specs.Courses.{onward, course};
+ghost use Rattle.node_model.specs.Peers.{Peer};
+ghost use Rattle.run_model.specs.Worlds.{APeer, AreApart, first_world};
+ghost use Rattle.overlay_laws.specs.Bytes.{AreAllBytes};
+ghost use Rattle.overlay_laws.specs.Ways.{IsRouted};
+ghost use Rattle.run_model.specs.Runs.{Event, world_after, happenings, decisions_in};
+
+/// The decisions, taken in order, are those of one map, which no node has.
+pub fn decisions_are_those_of_one_map()
+    ensures { (words : SignerWords) (config : Config) (names : List DeclaredNode)
+        (events : List Event) → AreApart names
+        → IsLegal (decisions_in config (happenings words (first_world config names) events)) }
+{}
+
+/// Each Store acts at most once, whatever is repeated, and the storage times accepted in one slot
+/// rise: under a configuration within its limits, where what the frames hold are bytes.
+pub fn stores_act_once_in_every_run()
+    ensures { (words : SignerWords) (config : Config) (names : List DeclaredNode)
+        (events : List Event) → AreApart names → IsConfig config
+        → let w = first_world config names in
+        AreAllBytes (world_after words w events)
+        → IsOnce (decisions_in config (happenings words w events)) }
+{}
+
+/// At each moment no two peers own one id.
+pub fn each_id_has_one_owner()
+    ensures { (words : SignerWords) (config : Config) (names : List DeclaredNode)
+        (events : List Event) (n k : ℕ) (p q : Peer) (id : ℕ) → AreApart names
+        → let w = world_after words (first_world config names) events in
+        get w.actors n ≡ Some (APeer p) → get w.actors k ≡ Some (APeer q)
+        → owns p.tables id ≡ true → owns q.tables id ≡ true → n ≡ k }
+{}
+
+/// At each moment the record of a resource at the peer that owns it is that of the one map.
+pub fn owners_have_the_record_of_the_one_map()
+    ensures { (words : SignerWords) (config : Config) (names : List DeclaredNode)
+        (events : List Event) (n : ℕ) (p : Peer) (resource : ℕ) → AreApart names
+        → let w = first_world config names in
+        get (world_after words w events).actors n ≡ Some (APeer p)
+        → owns p.tables resource ≡ true
+        → record_in p.records resource
+        ≡ record_in (map_of (decisions_in config (happenings words w events))) resource }
+{}
+
+/// A request for a resource stays with the member that owns it, and goes on from each other one to
+/// a member that is nearer to the owner, with one hop less and the node that it came from behind its
+/// via list.
+pub fn requests_go_to_the_owner()
+    ensures owner { (members : List ℕ) (from : NodeId) (t : Tables) (size : ℕ)
+        (resource : ResourceId) (h : Header) → AreMembers members → resource.0 < 2 ^ 128
+        → IsExact members t → IsRouted size resource h → IsOwner members resource.0 t.me
+        → course from t Member size h ≡ Owned resource }
+    ensures others { (members : List ℕ) (from : NodeId) (t : Tables) (size : ℕ)
+        (resource : ResourceId) (h : Header) (owner : ℕ) → AreMembers members
+        → resource.0 < 2 ^ 128 → IsExact members t → IsRouted size resource h → 1 < ttl_of h
+        → IsOwner members resource.0 owner → t.me ≢ owner
+        → (next : ℕ)
+        × (course from t Member size h ≡ Forwarded (record { 0 = next }) (onward from h h.dest))
+        × IsAmong next members
+        × (distance next owner < distance t.me owner) }
+{}
