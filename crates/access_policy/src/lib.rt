@@ -95,6 +95,3 @@ fn has_number(resource: ResourceId, node: NodeId, number: u32) -> bool
 {
     resource_of(&numbered(node, number)) == resource
 }
-
-#[cfg(test)]
-mod tests;

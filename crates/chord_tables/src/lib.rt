@@ -13,6 +13,3 @@ pub const MAX_NEIGHBOURS: usize = 3;
 
 /// The number of fingers (this profile).
 pub const FINGERS: usize = 16;
-
-#[cfg(test)]
-mod tests;

@@ -22,6 +22,3 @@ pub use store_kind::{put_store_kind, take_store_kind};
 pub use store_kind::take_store_kind as take_fetch_kind;
 pub use stored_codec::{gap_size, signed_bytes, sizes};
 pub use stored_data::{END_INDEX, SlotKey, StoredData};
-
-#[cfg(test)]
-mod tests;

@@ -3,8 +3,6 @@
 
 mod due;
 mod place;
-#[cfg(test)]
-mod tests;
 mod timers;
 
 pub use due::Due;

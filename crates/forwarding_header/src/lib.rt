@@ -14,6 +14,3 @@ pub use forwarding_option::{
 };
 pub use header::{Header, MAX_HEADER_LIST, encode_header, fits};
 pub use way_back::reversed;
-
-#[cfg(test)]
-mod tests;

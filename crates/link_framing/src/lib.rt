@@ -8,8 +8,6 @@ mod laws;
 mod layout;
 mod only;
 mod reader;
-#[cfg(test)]
-mod tests;
 
 pub use acks::Acks;
 pub use frame::{Frame, FrameFault, FrameView, encode_frame};

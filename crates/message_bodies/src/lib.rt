@@ -35,6 +35,3 @@ pub use probe::ProbeInformationType;
 pub use probe_ans::ProbeInformation;
 pub use store_ans::StoreKindResponse;
 pub use update::ChordUpdate;
-
-#[cfg(test)]
-mod tests;

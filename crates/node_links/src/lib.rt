@@ -13,6 +13,3 @@ pub use limits::{MAX_NUMBER, MAX_WORK};
 pub use links::Links;
 pub use node::Node;
 pub use sending::Sending;
-
-#[cfg(test)]
-mod tests;

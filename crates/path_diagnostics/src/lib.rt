@@ -16,6 +16,3 @@ pub use encode::{
     encode_diag_request, encode_diag_response, encode_track_answer, encode_track_request,
 };
 pub use track::{Target, TrackAnswer, TrackRequest};
-
-#[cfg(test)]
-mod tests;

@@ -14,6 +14,3 @@ pub use note::{NoteForm, PeerNote, StoreNote};
 
 /// Turns, and the generations of a note's kinds, are below this number (2^62, this profile).
 pub const TURN_LIMIT: u64 = 0x4000_0000_0000_0000;
-
-#[cfg(test)]
-mod tests;

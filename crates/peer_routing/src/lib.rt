@@ -52,6 +52,3 @@ fn owning_predecessor(t: &Tables, k: u128) -> Option<NodeId>
         _ => None,
     }
 }
-
-#[cfg(test)]
-mod tests;

@@ -42,6 +42,3 @@ pub fn overlay_of(name: &[u8]) -> u32
     let d = Sha1::digest(name);
     u32::from_be_bytes([d[16], d[17], d[18], d[19]])
 }
-
-#[cfg(test)]
-mod tests;

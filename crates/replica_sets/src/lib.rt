@@ -41,6 +41,3 @@ pub fn refill(
     }
     Ok(queued)
 }
-
-#[cfg(test)]
-mod tests;

@@ -10,8 +10,6 @@ mod node;
 mod resource;
 mod room;
 mod specifier;
-#[cfg(test)]
-mod tests;
 mod value;
 
 pub use data::{Data, MAX_BYTES, MAX_FILL};

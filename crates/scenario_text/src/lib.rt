@@ -11,8 +11,6 @@ mod reading;
 mod request;
 mod saying;
 mod scenario;
-#[cfg(test)]
-mod tests;
 
 pub use echo::put_echo;
 pub use fault::TextFault;

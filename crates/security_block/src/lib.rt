@@ -13,6 +13,3 @@ pub use block::{SecurityBlock, decode_block, encode_block};
 pub use certificate::Certificate;
 pub use signer::{SIGNING, Signer, signer_of, verifies_as_own};
 pub use stand_in::StandIn;
-
-#[cfg(test)]
-mod tests;

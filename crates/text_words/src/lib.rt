@@ -13,8 +13,6 @@ mod pieces;
 mod put;
 mod separator;
 mod steps;
-#[cfg(test)]
-mod tests;
 mod transaction;
 
 pub use decimal::{decimal_of, number_of, put_decimal};

@@ -8,8 +8,6 @@ mod outbox;
 mod queue;
 mod spot;
 mod table;
-#[cfg(test)]
-mod tests;
 mod txn;
 
 pub use again::{Again, Taken, Ticked};

@@ -7,8 +7,6 @@ mod asked;
 mod decision;
 mod laws;
 mod lines;
-#[cfg(test)]
-mod tests;
 mod value;
 
 pub use answer::{Told, put_answer_line};

@@ -32,6 +32,3 @@ pub use put::{
     put_u128,
 };
 pub use signature::{Signature, SignerIdentity, put_signature, take_signature};
-
-#[cfg(test)]
-mod tests;

@@ -1,7 +1,7 @@
 //! Tables of scenarios.
 
-use super::*;
 use reload_base::{Bytes, List, NoMemory};
+use scenario_text::*;
 use std::alloc::Global;
 use std::test::Fail;
 

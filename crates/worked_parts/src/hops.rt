@@ -1,4 +1,6 @@
-use super::*;
+use chord_tables::Tables;
+use peer_routing::{Hop, next_hop};
+use reload_ids::NodeId;
 use std::test::*;
 
 #[test]

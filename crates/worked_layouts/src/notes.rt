@@ -1,4 +1,4 @@
-use super::*;
+use peer_note::*;
 use reload_base::{Bytes, List};
 use reload_ids::NodeId;
 use std::test::*;

@@ -1,4 +1,4 @@
-use super::*;
+use path_diagnostics::*;
 use reload_base::{Bytes, List};
 use reload_ids::{NodeId, ResourceId};
 use std::test::*;

@@ -1,6 +1,5 @@
 //! Lines of transcripts.
 
-use super::*;
 use data_models::{KindValues, Selector, SlotKey, Specifier, StoreKind, StoredData};
 use reload_base::{Bytes, List, NoMemory};
 use reload_ids::{NodeId, ResourceId};
@@ -12,6 +11,7 @@ use storage_model::{
     Asked, AskedKind, AskedValues, FetchAsked, FetchVerdict, JoinAsked, Refusal, StoreAsked,
     StoreVerdict, Value,
 };
+use transcript_text::*;
 use wire_core::{Signature, SignerIdentity};
 
 fn stored(alloc: Global, key: SlotKey, value: &[u8]) -> Result<StoredData, NoMemory> {

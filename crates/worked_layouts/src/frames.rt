@@ -1,4 +1,4 @@
-use crate::{Acks, Frame, FrameFault, FrameReader, encode_frame};
+use link_framing::{Acks, Frame, FrameFault, FrameReader, encode_frame};
 use reload_base::Bytes;
 use std::alloc::Global;
 use std::test::Fail;

@@ -1,8 +1,8 @@
 //! Tables of words, and what each spells.
 
-use super::*;
 use reload_base::{Bytes, List};
 use std::test::Fail;
+use text_words::*;
 
 #[test]
 fn decimals(rt: HostRuntime) -> Result<(), Fail> {

@@ -1,5 +1,5 @@
-use super::*;
 use access_policy::Policy;
+use data_models::*;
 use reload_base::{Bytes, List, NoMemory, TryCopy};
 use reload_ids::ResourceId;
 use std::alloc::Global;
@@ -17,6 +17,13 @@ const AT_FIVE: &[u8] = &[
 const NONE_AT_K: &[u8] = &[
     0x00, 0x00, 0x00, 0x1b, 0x00, 0x00, 0x00, 0x00, 0x00, 0x00, 0x00, 0x00, 0x00, 0x00, 0x00, 0x00,
     0x00, 0x01, 0x6b, 0x00, 0x00, 0x00, 0x00, 0x00, 0x00, 0x00, 0x03, 0x00, 0x00, 0x00, 0x00,
+];
+
+/// No value at the end of an array, signed as the value at index 5: a StoredData of 33 bytes.
+const AT_THE_END: &[u8] = &[
+    0x00, 0x00, 0x00, 0x1d, 0x00, 0x00, 0x00, 0x00, 0x00, 0x00, 0x00, 0x00, 0x00, 0x00, 0x00, 0x00,
+    0xff, 0xff, 0xff, 0xff, 0x00, 0x00, 0x00, 0x00, 0x00, 0x04, 0x01, 0x03, 0x00, 0x00, 0x00, 0x01,
+    0x09,
 ];
 
 fn kind_def(id: u32, model: DataModel) -> KindDef {
@@ -131,12 +138,13 @@ fn kinds(rt: HostRuntime) -> Result<(), Fail> {
 #[test]
 fn the_end_of_an_array(rt: HostRuntime) -> Result<(), Fail> {
     let alloc = rt.alloc();
-    let key = slot_key::take_key(
-        alloc,
-        DataModel::Array,
-        &mut Cursor::new(&[0xff, 0xff, 0xff, 0xff], 0),
-    )?;
-    assert!(rt; matches!(&key, SlotKey::End) && key.model() == DataModel::Array);
+    let array = [0, 0, 1, 1, 0, 0, 0, 0, 0, 0, 0, 3, 0, 0, 0, 33];
+    let (kind, same) = kind_again(alloc, &array, AT_THE_END)?;
+    assert!(rt;
+        same && matches!(&kind.values, KindValues::Known(list)
+        if matches!(list.get(0), Some(stored) if matches!(&stored.key, SlotKey::End)))
+    );
+    assert!(rt; SlotKey::End.model() == DataModel::Array);
     assert_eq!(rt;
         SlotKey::Index(258).bytes(alloc)?.as_slice(),
         [0, 0, 1, 2].as_slice()

@@ -1,8 +1,8 @@
-use crate::{Again, Left, Table, Taken, Ticked, Txn};
 use reload_base::{Bytes, NoMemory};
 use reload_ids::NodeId;
 use std::alloc::Global;
 use std::test::Fail;
+use transaction_table::{Again, Left, Table, Taken, Ticked, Txn};
 
 fn message(alloc: Global, byte: u8) -> Result<Bytes, NoMemory> {
     Bytes::from_slice(alloc, &[byte])

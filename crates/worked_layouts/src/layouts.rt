@@ -1,7 +1,7 @@
-use super::*;
 use reload_base::{Bytes, List, NoMemory};
 use reload_ids::{NodeId, ResourceId};
 use std::test::*;
+use wire_core::*;
 
 fn bad<T: Drop>(place: u64, reason: Reason) -> Result<T, Bad> {
     Err(Bad { place, reason })

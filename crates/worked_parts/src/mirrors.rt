@@ -1,4 +1,7 @@
-use super::*;
+use reload_base::{List, NoMemory};
+use reload_ids::{NodeId, ResourceId};
+use replica_sets::*;
+use std::alloc::Global;
 use std::test::*;
 
 /// What the peer holds.

@@ -1,8 +1,8 @@
 //! Words of requests.
 
-use super::*;
 use data_models::{Selector, SlotKey};
 use reload_base::List;
+use request_words::*;
 use std::test::Fail;
 use text_words::Pieces;
 

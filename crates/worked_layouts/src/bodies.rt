@@ -1,6 +1,6 @@
-use super::*;
 use access_policy::Policy;
 use data_models::{Config, DataModel, KindDef};
+use message_bodies::*;
 use reload_base::{Bytes, List};
 use std::test::*;
 use wire_core::Reason::{BadValue, LengthPast, Short, Trailing};

@@ -1,4 +1,4 @@
-use crate::{
+use reload_base::{
     Air, Bytes, Got, List, MemoryAir, MemorySink, MemorySource, ReadError, Room, Sent, Sink,
     Source, StdSink, StdSource, Took, TryCopy, WriteError, Wrote, read_all, write_all,
 };

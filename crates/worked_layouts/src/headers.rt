@@ -1,4 +1,4 @@
-use super::*;
+use forwarding_header::*;
 use reload_base::{Bytes, List, NoMemory};
 use reload_ids::{NodeId, ResourceId};
 use std::alloc::{AllocError, Global};

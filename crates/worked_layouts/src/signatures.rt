@@ -1,11 +1,11 @@
 ghost use Rattle.std.specs.Prelude.{IfOk};
 ghost use Rattle.security_block.specs.Signers.{IsNamed};
 
-use crate::{
-    About, Certificate, SecurityBlock, Signer, StandIn, decode_block, encode_block, signer_of,
-};
 use reload_base::{Bytes, List, NoMemory, TryCopy};
 use reload_ids::NodeId;
+use security_block::{
+    About, Certificate, SecurityBlock, Signer, StandIn, decode_block, encode_block, signer_of,
+};
 use sha2::{Digest, Sha256};
 use std::alloc::Global;
 use std::test::Fail;

@@ -1,4 +1,4 @@
-use super::*;
+use reload_ids::*;
 use std::test::*;
 
 #[test]

@@ -1,4 +1,4 @@
-use crate::Due;
+use due_list::Due;
 use std::test::Fail;
 
 #[test]

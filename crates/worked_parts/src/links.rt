@@ -1,9 +1,9 @@
 ghost use Rattle.std.specs.Prelude.{IfSome};
 ghost use Rattle.node_links.specs.Sendings.{IsSending};
 
-use crate::{Links, Node, Sending, payload_in};
 use data_models::Config;
 use forwarding_header::{Header, fits};
+use node_links::{Links, Node, Sending, payload_in};
 use node_messages::header_len;
 use node_model::MAX_LOAD;
 use reload_base::{Bytes, List, NoMemory};

@@ -1,4 +1,4 @@
-use super::*;
+use chord_tables::*;
 use reload_base::TryCopy;
 use reload_ids::NodeId;
 use std::alloc::Global;

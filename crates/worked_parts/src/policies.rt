@@ -1,4 +1,5 @@
-use super::*;
+use access_policy::*;
+use reload_ids::{NodeId, ResourceId};
 use std::test::*;
 
 /// Its 16 bytes are 1 to 16.
