@@ -16,8 +16,11 @@ use Rattle.node_model.specs.Nodes.{Cause, Framed, Commanded}
 use Rattle.node_model.specs.Clients.{is_busy}
 use Rattle.run_model.specs.declared.flight.Flight.{Flight}
 use Rattle.run_model.specs.declared.flight.Fate.TheVariants.{Delivered, Lost}
-use Rattle.run_model.specs.Worlds.{World, Actor, APeer, AClient, Done, NoSuchFrame, UnknownNode, Busy, quiet, refused, then_on, acts, after_step, handled, node_of}
-use Rattle.run_model.specs.Moves.{Move, Clock, Deliver, Lose, Drain, Ask, with_fate, is_waiting, is_hearing, flown, flown_at, is_frame, delivered, lost_at, lost, drained, is_asked, told_by, told, moved}
+use Rattle.run_model.specs.declared.happening.Happening.TheVariants.{NoSuchFrame, UnknownNode, Busy}
+use Rattle.run_model.specs.Worlds.{World, Actor, APeer, AClient, Done, quiet, refused, then_on, acts, after_step, handled, node_of}
+use Rattle.run_model.specs.declared.moves.Move.{Move}
+use Rattle.run_model.specs.declared.moves.Move.TheVariants.{Clock, Deliver, Lose, Drain, Ask}
+use Rattle.run_model.specs.Moves.{aimed, with_fate, is_waiting, is_hearing, flown, flown_at, is_frame, delivered, lost_at, lost, drained, is_asked, told_by, told, moved}
 use Rattle.run_model.specs.Runs.{Event, decision_in, world_after, happenings}
 use Rattle.overlay_laws.proofs.OneMap.{Holds, Goes, decided, holds_still, goes_on, goes_peer, goes_client}
 
@@ -91,10 +94,16 @@ goes_heard words at f m w (Some from) h =
     let v : World = with_fate Delivered at f w in
     goes_from m w v _ refl (goes_handled words f.hearer (Framed from f.bytes) m v (holds_still m w v refl refl h))
 
+still_lost : (at : ℕ) (w : World) (o : Option Flight) → ((option_map_or (λ f. cond (is_waiting f) (with_fate Lost at f w) w) o w).actors ≡ w.actors) × ((option_map_or (λ f. cond (is_waiting f) (with_fate Lost at f w) w) o w).config ≡ w.config)
+still_lost at w None = (refl, refl)
+still_lost at w (Some f) =
+    elim (is_waiting f) as (λ b. ((cond b (with_fate Lost at f w) w).actors ≡ w.actors) × ((cond b (with_fate Lost at f w) w).config ≡ w.config)) [ true ↦ (refl, refl) | false ↦ (refl, refl) ]
+
 goes_flown : (words : SignerWords) (at : ℕ) (f : Flight) (m : Map) (w : World) → Holds m w → Goes m w (flown words at f w)
-unfolding flown
+unfolding flown lost_at
 goes_flown words at f m w h =
-    goes_if m w (is_hearing (get w.actors f.hearer)) _ _ (goes_heard words at f m w (node_of w.names f.sender) h) (goes_on m w (with_fate Lost at f w) refl refl h)
+    let still = still_lost at w (slice_get w.flights at) in
+    goes_if m w (is_hearing (get w.actors f.hearer)) _ _ (goes_heard words at f m w (node_of w.names f.sender) h) (goes_on m w (lost_at at w) still.0 still.1 h)
 
 goes_place : (words : SignerWords) (at : ℕ) (m : Map) (w : World) (o : Option Flight) → Holds m w → Goes m w (option_map_or (λ f. flown words at f w) o (quiet w))
 goes_place words at m w None h = goes_quiet m w h
@@ -107,11 +116,6 @@ goes_flown_at words at m w h = goes_place words at m w (slice_get w.flights at) 
 goes_delivered : (words : SignerWords) (line k : ℕ) (m : Map) (w : World) → Holds m w → Goes m w (delivered words line k w)
 unfolding delivered
 goes_delivered words line k m w h = goes_if m w (is_frame k w) _ _ (goes_flown_at words (k - 1) m w h) (goes_no_frame m w line h)
-
-still_lost : (at : ℕ) (w : World) (o : Option Flight) → ((option_map_or (λ f. cond (is_waiting f) (with_fate Lost at f w) w) o w).actors ≡ w.actors) × ((option_map_or (λ f. cond (is_waiting f) (with_fate Lost at f w) w) o w).config ≡ w.config)
-still_lost at w None = (refl, refl)
-still_lost at w (Some f) =
-    elim (is_waiting f) as (λ b. ((cond b (with_fate Lost at f w) w).actors ≡ w.actors) × ((cond b (with_fate Lost at f w) w).config ≡ w.config)) [ true ↦ (refl, refl) | false ↦ (refl, refl) ]
 
 goes_lost : (line k : ℕ) (m : Map) (w : World) → Holds m w → Goes m w (lost line k w)
 unfolding lost lost_at
@@ -154,7 +158,7 @@ goes_moved words line (Clock ms) m w h = goes_on m w (record w { clock = w.clock
 goes_moved words line (Deliver k) m w h = goes_delivered words line k m w h
 goes_moved words line (Lose k) m w h = goes_lost line k m w h
 goes_moved words line (Drain n) m w h = goes_drained words n m w h
-goes_moved words line (Ask client peer command) m w h = goes_told words line client peer command m w h
+goes_moved words line (Ask client peer command) m w h = goes_told words line client peer (aimed command) m w h
 
 -- the decisions of any events are those of the one map
 pub run_legal : (words : SignerWords) (m : Map) (w : World) (es : List Event) → Holds m w → IsLegalFrom m (decided w.config (happenings words w es))

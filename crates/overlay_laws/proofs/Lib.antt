@@ -1,3 +1,6 @@
+pub mod Lists
+pub mod Clocks
+pub mod Gives
 pub mod Deeds
 pub mod Tellings
 pub mod OneMap
@@ -6,3 +9,5 @@ pub mod Start
 pub mod Ways
 pub mod Sound
 pub mod Saneness
+pub mod Times
+pub mod Runs

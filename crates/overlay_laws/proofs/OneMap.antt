@@ -22,7 +22,9 @@ use Rattle.node_model.specs.Nodes.{Step, Cause}
 use Rattle.node_model.specs.Peers.{Peer, peer_step, effect_at}
 use Rattle.node_model.specs.Clients.{Client, client_step}
 use Rattle.run_model.specs.declared.flight.Flight.{Flight}
-use Rattle.run_model.specs.Worlds.{World, Actor, APeer, AClient, Done, Happening, Tells, quiet, acts, after_step}
+use Rattle.run_model.specs.declared.happening.Happening.{Happening}
+use Rattle.run_model.specs.declared.happening.Happening.TheVariants.{Tells}
+use Rattle.run_model.specs.Worlds.{World, Actor, APeer, AClient, Done, quiet, acts, after_step}
 use Rattle.run_model.specs.Runs.{decision_in}
 use Rattle.overlay_laws.proofs.Deeds.{Deed, Silent, Decides, acts_peer}
 use Rattle.overlay_laws.proofs.Tellings.{TellsAnswers, Nothing, Answer, tells_client}
@@ -121,14 +123,14 @@ same_effect : (c d : Config) (now resource : ℕ) (x y : Record) (origin : NodeI
 same_effect c d now resource x y origin id q e f = ap (λ (c : Config). effect_of c now resource x origin id q) e ∙ ap (λ (x : Record). effect_of d now resource x origin id q) f
 
 -- the decision that a peer tells
-abbrev told_decision : Config → ℕ → ℕ → ResourceId → NodeId → ℕ → Asked → Effect → Decision
+abbrev pub told_decision : Config → ℕ → ℕ → ResourceId → NodeId → ℕ → Asked → Effect → Decision
 told_decision config n now r origin id q e = record { peer = n; time = now; config = config; resource = r.0; origin = origin; id = id; asked = q; answer = e.answer }
 
-decided_one : (config : Config) (n now : ℕ) (r : ResourceId) (origin : NodeId) (id : ℕ) (q : Asked) (e : Effect) (told : List Notice)
+pub decided_one : (config : Config) (n now : ℕ) (r : ResourceId) (origin : NodeId) (id : ℕ) (q : Asked) (e : Effect) (told : List Notice)
     → told ≡ notices.Decision now r origin id q e.answer e.acted ∷ [] → decided config (map (Tells n) told) ≡ told_decision config n now r origin id q e ∷ []
 decided_one config n now r origin id q e told is = rw is refl
 
-decided_none : (config : Config) (n : ℕ) (told : List Notice) → told ≡ [] → decided config (map (Tells n) told) ≡ []
+pub decided_none : (config : Config) (n : ℕ) (told : List Notice) → told ≡ [] → decided config (map (Tells n) told) ≡ []
 decided_none config n told is = rw is refl
 
 -- the map after one decision, and what is legal then
@@ -193,7 +195,7 @@ other_found actors n x k q e =
     (λ (o : k ≢ n). sym (get-insert nat_cmp_total actors n (AClient x) k ∙ cond-false _ _ _ (key_other k n o)) ∙ e)
     (cases_eq k n)
 
-decided_answers : (config : Config) (n : ℕ) (told : List Notice) → TellsAnswers told → decided config (map (Tells n) told) ≡ []
+pub decided_answers : (config : Config) (n : ℕ) (told : List Notice) → TellsAnswers told → decided config (map (Tells n) told) ≡ []
 decided_answers config n told (Nothing is) = rw is refl
 decided_answers config n told (Answer id what is) = rw is refl
 

@@ -1,5 +1,5 @@
 -- Where all frames are bytes, what is decided makes sense.
-use Rattle.std.proofs.Common.{◌≡◌, ℕ, zero, suc, ◌+◌, ◌-◌, ◌++◌, List, [], ◌∷◌, map, length, Bool, true, false, cond, Option, Some, None, refl, sym, ap, ◌∙◌, subst}
+use Rattle.std.proofs.Common.{◌≡◌, ℕ, zero, suc, ◌+◌, ◌-◌, List, [], ◌∷◌, map, length, Bool, true, false, cond, Option, Some, None, refl, sym, ap, ◌∙◌, subst}
 use Rattle.std.specs.Prelude.{position, slice_get, slice_set}
 use Rattle.std.specs.Option.{option_map_or}
 use Rattle.std.specs.List.{AllByRecursion, list_any}
@@ -33,11 +33,15 @@ use Rattle.node_model.specs.Clients.{is_busy}
 use Rattle.run_model.specs.declared.flight.Flight.{Flight}
 use Rattle.run_model.specs.declared.flight.Fate.{Fate}
 use Rattle.run_model.specs.declared.flight.Fate.TheVariants.{Delivered, Lost}
-use Rattle.run_model.specs.Worlds.{World, Actor, APeer, AClient, Done, Happening, Tells, NoSuchFrame, UnknownNode, Busy, quiet, refused, then_on, acts, after_step, node_of}
+use Rattle.run_model.specs.declared.happening.Happening.TheVariants.{Tells, NoSuchFrame, UnknownNode, Busy}
+use Rattle.run_model.specs.Worlds.{World, Actor, APeer, AClient, Done, quiet, refused, then_on, acts, after_step, node_of}
 use Rattle.run_model.specs.Worlds as worlds
-use Rattle.run_model.specs.Moves.{Move, Clock, Deliver, Lose, Drain, Ask, with_fate, is_waiting, is_hearing, flown, flown_at, is_frame, delivered, lost_at, lost, drained, is_asked, told_by, told, moved}
+use Rattle.run_model.specs.declared.moves.Move.{Move}
+use Rattle.run_model.specs.declared.moves.Move.TheVariants.{Clock, Deliver, Lose, Drain, Ask}
+use Rattle.run_model.specs.Moves.{aimed, with_fate, is_waiting, is_hearing, flown, flown_at, is_frame, delivered, lost_at, lost, drained, is_asked, told_by, told, moved}
 use Rattle.run_model.specs.Runs.{Event, decision_in, world_after, happenings}
 use Rattle.overlay_laws.specs.Bytes.{AreAllBytes}
+use Rattle.overlay_laws.proofs.Lists.{all_both, all_front}
 use Rattle.overlay_laws.proofs.OneMap.{Holds, decided, holds_still}
 use Rattle.overlay_laws.proofs.Events.{goes_flown_at, goes_moved}
 use Rattle.overlay_laws.proofs.Sound.{HasModels, IsSane, IsRead, sane_message, read_in, payload_bytes}
@@ -130,14 +134,6 @@ sane_peer words models now Clocked p are has = tt
 sane_peer words models now (Commanded command) p are has = tt
 
 -- ---- decisions
-
-all_both : {X : Type 0} (P : X → Type 0) (xs ys : List X) → AllByRecursion P xs → AllByRecursion P ys → AllByRecursion P (xs ++ ys)
-all_both P [] ys first other = other
-all_both P (x ∷ xs) ys first other = (first.0, all_both P xs ys first.1 other)
-
-all_front : {X : Type 0} (P : X → Type 0) (xs ys : List X) → AllByRecursion P (xs ++ ys) → AllByRecursion P xs
-all_front P [] ys all = tt
-all_front P (x ∷ xs) ys all = (all.0, all_front P xs ys all.1)
 
 sound_told : (models : ℕ → DataModel) (config : Config) (n : ℕ) (told : List Notice) → IsConfig config → HasModels models config → AreSane models config told → AreSound models (decided config (map (Tells n) told))
 sound_told models config n [] is has sane = tt
@@ -250,11 +246,19 @@ sane_heard words models at f m w (Some from) there h fit =
           (bytes_there w.flights at f there (bytes_before w.flights at f Delivered there (heard_back words (Framed from f.bytes) f.hearer v all)))).sound all;
     }
 
+sane_lost : (models : ℕ → DataModel) (at : ℕ) (w : World) (o : Option Flight) → slice_get w.flights at ≡ o → Sane models w (quiet (option_map_or (λ f. cond (is_waiting f) (with_fate Lost at f w) w) o w))
+sane_lost models at w None there = sane_quiet models w w refl
+sane_lost models at w (Some f) there =
+    elim (is_waiting f) as (λ b. Sane models w (quiet (cond b (with_fate Lost at f w) w))) [
+      | true ↦ record { back = λ all. bytes_before w.flights at f Lost there all; sound = λ all. tt }
+      | false ↦ sane_quiet models w w refl
+    ]
+
 sane_flown : (words : SignerWords) (models : ℕ → DataModel) (at : ℕ) (f : Flight) (m : Map) (w : World) → slice_get w.flights at ≡ Some f → Holds m w → IsFit models w.config → Sane models w (flown words at f w)
-unfolding flown
+unfolding flown lost_at
 sane_flown words models at f m w there h fit =
     sane_choice models w (is_hearing (get w.actors f.hearer)) _ _ (sane_heard words models at f m w (node_of w.names f.sender) there h fit)
-    (record { back = λ all. bytes_before w.flights at f Lost there all; sound = λ all. tt })
+    (sane_lost models at w (slice_get w.flights at) refl)
 
 sane_place : (words : SignerWords) (models : ℕ → DataModel) (at : ℕ) (m : Map) (w : World) (o : Option Flight) → slice_get w.flights at ≡ o → Holds m w → IsFit models w.config → Sane models w (option_map_or (λ f. flown words at f w) o (quiet w))
 sane_place words models at m w None there h fit = sane_quiet models w w refl
@@ -263,14 +267,6 @@ sane_place words models at m w (Some f) there h fit = sane_flown words models at
 sane_flown_at : (words : SignerWords) (models : ℕ → DataModel) (at : ℕ) (m : Map) (w : World) → Holds m w → IsFit models w.config → Sane models w (flown_at words at w)
 unfolding flown_at
 sane_flown_at words models at m w h fit = sane_place words models at m w (slice_get w.flights at) refl h fit
-
-sane_lost : (models : ℕ → DataModel) (at : ℕ) (w : World) (o : Option Flight) → slice_get w.flights at ≡ o → Sane models w (quiet (option_map_or (λ f. cond (is_waiting f) (with_fate Lost at f w) w) o w))
-sane_lost models at w None there = sane_quiet models w w refl
-sane_lost models at w (Some f) there =
-    elim (is_waiting f) as (λ b. Sane models w (quiet (cond b (with_fate Lost at f w) w))) [
-      | true ↦ record { back = λ all. bytes_before w.flights at f Lost there all; sound = λ all. tt }
-      | false ↦ sane_quiet models w w refl
-    ]
 
 fit_still : (models : ℕ → DataModel) (c d : Config) → d ≡ c → IsFit models c → IsFit models d
 fit_still models c d e fit = subst (IsFit models) (sym e) fit
@@ -306,7 +302,7 @@ sane_moved words models line (Deliver k) m w h fit = sane_choice models w (is_fr
 sane_moved words models line (Lose k) m w h fit = sane_choice models w (is_frame k w) _ _ (sane_lost models (k - 1) w (slice_get w.flights (k - 1)) refl) (sane_no_frame models w line)
 sane_moved words models line (Drain n) m w h fit = sane_drained words models n m w h fit
 sane_moved words models line (Ask client peer command) m w h fit =
-    sane_choice models w (is_asked (get w.actors peer)) _ _ (sane_asking words models line client command m w (node_of w.names peer) h fit) (sane_no_node models w line)
+    sane_choice models w (is_asked (get w.actors peer)) _ _ (sane_asking words models line client (aimed command) m w (node_of w.names peer) h fit) (sane_no_node models w line)
 
 -- ---- runs
 

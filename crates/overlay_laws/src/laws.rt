@@ -23,6 +23,7 @@ ghost use Rattle.node_model.specs.Courses.{onward, course};
 ghost use Rattle.node_model.specs.Peers.{Peer};
 ghost use Rattle.run_model.specs.Worlds.{APeer, AreApart, first_world};
 ghost use Rattle.overlay_laws.specs.Bytes.{AreAllBytes};
+ghost use Rattle.overlay_laws.specs.Gives.{GivesLastPuts, GivesAtDecisions, HoldsPermitted, InTime};
 ghost use Rattle.overlay_laws.specs.Ways.{IsRouted};
 ghost use Rattle.run_model.specs.Runs.{Event, world_after, happenings, decisions_in};
 
@@ -41,6 +42,40 @@ pub fn stores_act_once_in_every_run()
         → let w = first_world config names in
         AreAllBytes (world_after words w events)
         → IsOnce (decisions_in config (happenings words w events)) }
+{}
+
+/// The clocks of decisions never fall.
+pub fn clocks_never_fall()
+    ensures { (words : SignerWords) (config : Config) (names : List DeclaredNode)
+        (events : List Event)
+        → InTime (decisions_in config (happenings words (first_world config names) events)) }
+{}
+
+/// A Fetch is given for each slot the value that was last put there by an acting Store, if that
+/// hasn't expired, else a gap: at any moment, at a clock that isn't before that of any decision so
+/// far, and so at the clock of each decision. This is under a configuration within its limits,
+/// where what the frames hold are bytes.
+pub fn fetches_give_the_last_put_in_every_run()
+    ensures gives { (words : SignerWords) (config : Config) (names : List DeclaredNode)
+        (events : List Event) → AreApart names → IsConfig config
+        → let w = first_world config names in
+        AreAllBytes (world_after words w events)
+        → GivesLastPuts (decisions_in config (happenings words w events)) }
+    ensures at_decisions { (words : SignerWords) (config : Config) (names : List DeclaredNode)
+        (events : List Event) → AreApart names → IsConfig config
+        → let w = first_world config names in
+        AreAllBytes (world_after words w events)
+        → GivesAtDecisions (decisions_in config (happenings words w events)) }
+{}
+
+/// Nothing that wasn't permitted is ever held, under a configuration within its limits, where what
+/// the frames hold are bytes.
+pub fn only_what_is_permitted_is_held_in_every_run()
+    ensures { (words : SignerWords) (config : Config) (names : List DeclaredNode)
+        (events : List Event) → AreApart names → IsConfig config
+        → let w = first_world config names in
+        AreAllBytes (world_after words w events)
+        → HoldsPermitted (decisions_in config (happenings words w events)) }
 {}
 
 /// At each moment no two peers own one id.

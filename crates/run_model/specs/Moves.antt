@@ -5,6 +5,7 @@ use Rattle.std.specs.FinMap.{get}
 use Rattle.reload_ids.specs.declared.NodeId.{NodeId}
 use Rattle.node_messages.specs.Signed.{SignerWords}
 use Rattle.node_model.specs.declared.command.Command.{Command}
+use Rattle.node_model.specs.declared.command.Command.TheVariants as commands
 use Rattle.node_model.specs.declared.peer_state.PeerState.TheVariants as states
 use Rattle.node_model.specs.Nodes.{Framed, Commanded}
 use Rattle.node_model.specs.Peers.{state_of}
@@ -12,7 +13,10 @@ use Rattle.node_model.specs.Clients.{is_busy}
 use Rattle.run_model.specs.declared.flight.Flight.{Flight}
 use Rattle.run_model.specs.declared.flight.Fate.{Fate}
 use Rattle.run_model.specs.declared.flight.Fate.TheVariants.{Waiting, Delivered, Lost}
-use Rattle.run_model.specs.Worlds.{World, Actor, APeer, AClient, Done, NoSuchFrame, UnknownNode, Busy, quiet, refused, then_on, handled, node_of}
+use Rattle.run_model.specs.declared.moves.Move.{Move}
+use Rattle.run_model.specs.declared.moves.Move.TheVariants.{Clock, Deliver, Lose, Drain, Ask}
+use Rattle.run_model.specs.declared.happening.Happening.TheVariants.{NoSuchFrame, UnknownNode, Busy}
+use Rattle.run_model.specs.Worlds.{World, Actor, APeer, AClient, Done, quiet, refused, then_on, handled, node_of}
 
 -- ---- frames
 
@@ -30,6 +34,11 @@ is_hearing None = false
 is_hearing (Some (AClient c)) = true
 is_hearing (Some (APeer p)) = elim (state_of p.membership) [ states.Gone ↦ false | _ ↦ true ]
 
+-- the frame at a place is lost, unless it was delivered
+unfoldable pub lost_at : ℕ → World → World
+lost_at at w =
+    option_map_or (λ f. if is_waiting f then with_fate Lost at f w else w) (slice_get w.flights at) w
+
 -- the frame at a place is heard by its node, or lost where no node hears it
 unfoldable pub flown : SignerWords → ℕ → Flight → World → Done
 flown words at f w =
@@ -38,7 +47,7 @@ flown words at f w =
     (λ from. handled words f.hearer (Framed from f.bytes) (with_fate Delivered at f w))
     (node_of w.names f.sender)
     (quiet w)
-    else quiet (with_fate Lost at f w)
+    else quiet (lost_at at w)
 
 -- the same for the frame at a place, where there is one
 unfoldable pub flown_at : SignerWords → ℕ → World → Done
@@ -52,11 +61,6 @@ is_frame k w = not ((k == 0) || nat_lt (length w.flights) k)
 unfoldable pub delivered : SignerWords → ℕ → ℕ → World → Done
 delivered words line k w =
     if is_frame k w then flown_at words (k - 1) w else refused w (NoSuchFrame line)
-
--- the frame at a place is lost, unless it was delivered
-unfoldable pub lost_at : ℕ → World → World
-lost_at at w =
-    option_map_or (λ f. if is_waiting f then with_fate Lost at f w else w) (slice_get w.flights at) w
 
 -- frame K is lost, unless it was delivered
 unfoldable pub lost : ℕ → ℕ → World → Done
@@ -99,14 +103,10 @@ told words line client peer command w =
 
 -- ---- events
 
--- what moves a world: the clock goes on by so many ms, a frame is delivered or lost, the lowest
--- frames that wait are delivered, or a client is told to ask something of a peer
-pub data Move : Type 0 where
-  Clock : (ms : ℕ) → Move
-  Deliver : (k : ℕ) → Move
-  Lose : (k : ℕ) → Move
-  Drain : (n : ℕ) → Move
-  Ask : (client peer : ℕ) (command : NodeId → Command) → Move
+-- a command to the peer with a Node-ID
+abbrev pub aimed : Command → NodeId → Command
+aimed (commands.Store c) peer = commands.Store (record c { peer = peer })
+aimed (commands.Fetch c) peer = commands.Fetch (record c { peer = peer })
 
 -- what the event of a line makes of a world
 abbrev pub moved : SignerWords → ℕ → Move → World → Done
@@ -114,4 +114,4 @@ moved words line (Clock ms) w = quiet (record w { clock = w.clock + ms })
 moved words line (Deliver k) w = delivered words line k w
 moved words line (Lose k) w = lost line k w
 moved words line (Drain n) w = drained words n w
-moved words line (Ask client peer command) w = told words line client peer command w
+moved words line (Ask client peer command) w = told words line client peer (aimed command) w

@@ -5,8 +5,11 @@ use Rattle.data_models.specs.declared.config.Config.{Config}
 use Rattle.storage_model.specs.Decisions.{Decision}
 use Rattle.node_messages.specs.Signed.{SignerWords}
 use Rattle.node_model.specs.declared.notice.Notice.TheVariants as notices
-use Rattle.run_model.specs.Worlds.{World, Happening, Tells}
-use Rattle.run_model.specs.Moves.{Move, moved}
+use Rattle.run_model.specs.declared.happening.Happening.{Happening}
+use Rattle.run_model.specs.declared.happening.Happening.TheVariants.{Tells}
+use Rattle.run_model.specs.Worlds.{World}
+use Rattle.run_model.specs.declared.moves.Move.{Move}
+use Rattle.run_model.specs.Moves.{moved}
 
 -- an event: the number of its line, and what it does
 abbrev pub Event : Type 0

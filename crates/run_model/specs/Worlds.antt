@@ -13,7 +13,6 @@ use Rattle.request_words.specs.declared.node.Role.{Role}
 use Rattle.request_words.specs.declared.node.Role.TheVariants as roles
 use Rattle.request_words.specs.Nodes.{is_role}
 use Rattle.node_messages.specs.Signed.{SignerWords}
-use Rattle.node_model.specs.declared.notice.Notice.{Notice}
 use Rattle.node_model.specs.declared.peer_state.PeerState.{PeerState}
 use Rattle.node_model.specs.declared.peer_state.PeerState.TheVariants as states
 use Rattle.node_model.specs.Links.{Sent}
@@ -23,6 +22,8 @@ use Rattle.node_model.specs.Peers as peers
 use Rattle.node_model.specs.Clients.{Client, new_client, client_step}
 use Rattle.run_model.specs.declared.flight.Flight.{Flight}
 use Rattle.run_model.specs.declared.flight.Fate.TheVariants.{Waiting}
+use Rattle.run_model.specs.declared.happening.Happening.{Happening}
+use Rattle.run_model.specs.declared.happening.Happening.TheVariants.{Tells}
 
 -- a node that does something
 pub data Actor : Type 0 where
@@ -100,13 +101,6 @@ AreApart (n ∷ ns) =
 
 -- ---- what happens
 
--- what happens in a world: a node tells something, or the event at a line is refused
-pub data Happening : Type 0 where
-  Tells : (number : ℕ) (notice : Notice) → Happening
-  NoSuchFrame : (line : ℕ) → Happening
-  UnknownNode : (line : ℕ) → Happening
-  Busy : (line : ℕ) → Happening
-
 -- a world after a part of an event, and what happened
 pub record Done : Type 0 where
   pub world : World
@@ -178,6 +172,6 @@ is_still (AClient c) = true
 unfoldable pub is_settled : World → Bool
 is_settled w = list_all (λ a. is_still a.1) (entries w.actors)
 
--- the bytes of all frames
-unfoldable pub bytes_sent : World → ℕ
-bytes_sent w = sum_by (λ f. length f.bytes) w.flights
+-- how many bytes some frames have together
+unfoldable pub bytes_in : List Flight → ℕ
+bytes_in flights = sum_by (λ f. length f.bytes) flights

@@ -2,5 +2,11 @@
 #![tactic(auto)]
 
 mod flight;
+mod happening;
+mod limits;
+mod moves;
 
 pub use flight::{Fate, Flight};
+pub use happening::Happening;
+pub use limits::MAX_AIR;
+pub use moves::Move;
