@@ -2,7 +2,6 @@
 use Rattle.std.proofs.Common.{◌≡◌, ℕ, zero, suc, ◌+◌, ◌-◌, ◌≤◌, ◌<◌, ◌^◌, List, [], ◌∷◌, ◌++◌, length, Bool, true, false, not, Option, Some, None, ◌||◌, cond, eqb, ltb, refl, ap, sym, ◌∙◌, subst, append_assoc, length-set, arith}
 use Rattle.std.specs.Prelude.{position, slice_get, unwrap_or, find}
 use Rattle.std.specs.Option.{option_map}
-use Rattle.std.specs.List.{AllByRecursion}
 use Rattle.std.proofs.lemmas.List.{append-nil}
 use Rattle.std.proofs.lemmas.Bool.Decides.{nat_tests}
 use Rattle.text_words.specs.Lines.{ended}
@@ -14,6 +13,8 @@ use Rattle.storage_model.specs.Decisions.{Decision, kinds_of, IsLegalFrom}
 use Rattle.storage_model.specs.Laws.{IsSoundAsked, IsSound, AreSound}
 use Rattle.storage_model.proofs.Counters.{counters_bounded}
 use Rattle.storage_model.proofs.Models.{models_agree}
+use Rattle.overlay_laws.proofs.Lists.{all_both}
+use Rattle.overlay_laws.proofs.Clocks.{AreAt}
 use Rattle.scenario_text.specs.declared.scenario.Scenario.{Scenario}
 use Rattle.transcript_text.specs.Transcript.{refused_line}
 use Rattle.overlay_command.specs.declared.desk.Desk.{Desk}
@@ -52,9 +53,6 @@ sound_get config (j ∷ requests) zero i all e = let same : j ≡ i = cc in subs
 sound_get config (j ∷ requests) (suc k) i all e = sound_get config requests k i all.1 e
 
 -- ---- what is heard
-
-abbrev pub AreAt : ℕ → List Decision → Type 0
-AreAt clock ds = AllByRecursion (λ d. d.time ≡ clock) ds
 
 -- requests are heard at most so often: the requests and the clock stay
 pub record Hears (s : Scenario) (most : ℕ) (desk : Desk) (done : Done) : Type 0 where
@@ -105,14 +103,6 @@ pub hears_delivered : (s : Scenario) (desk : Desk) (line k : ℕ) → IsSteady s
 unfolding delivered
 hears_delivered s desk line k steady = hears_chosen s desk (eqb k 0 || ltb (length desk.requests) k) (ended (refused_line line)) k steady
 
-at-append : (clock : ℕ) (ds es : List Decision) → AreAt clock ds → AreAt clock es → AreAt clock (ds ++ es)
-at-append clock [] es first later = later
-at-append clock (d ∷ ds) es first later = (first.0, at-append clock ds es first.1 later)
-
-pub sound-append : (s : Scenario) (ds es : List Decision) → AreSound (model_under s.config) ds → AreSound (model_under s.config) es → AreSound (model_under s.config) (ds ++ es)
-sound-append s [] es first later = later
-sound-append s (d ∷ ds) es first later = (first.0, sound-append s ds es first.1 later)
-
 hears_both : (s : Scenario) (n m most : ℕ) (desk : Desk) (first : Done) (next : Desk → Done) → n + m ≤ most → Hears s n desk first → Hears s m first.desk (next first.desk) → Hears s most desk (then_on first next)
 hears_both s n m most desk first next le one two = record {
   steady = two.steady;
@@ -120,8 +110,8 @@ hears_both s n m most desk first next le one two = record {
   clock = two.clock ∙ one.clock;
   decisions = omega (arith, le, one.decisions, two.decisions);
   legal = λ later h. subst (λ (ds : List Decision). IsLegalFrom desk.shelf ds) (sym (append_assoc first.decided (next first.desk).decided later)) (one.legal ((next first.desk).decided ++ later) (two.legal later h));
-  sound = sound-append s first.decided (next first.desk).decided one.sound two.sound;
-  times = at-append desk.clock first.decided (next first.desk).decided one.times (subst (λ (c : ℕ). AreAt c (next first.desk).decided) one.clock two.times);
+  sound = all_both (IsSound (model_under s.config)) first.decided (next first.desk).decided one.sound two.sound;
+  times = all_both (λ (d : Decision). d.time ≡ desk.clock) first.decided (next first.desk).decided one.times (subst (λ (c : ℕ). AreAt c (next first.desk).decided) one.clock two.times);
 }
 
 hears_next : (s : Scenario) (n : ℕ) (desk : Desk) (first : Option ℕ) → position not desk.heard ≡ first → IsSteady s.config desk → ((d : Desk) → IsSteady s.config d → Hears s n d (drained s n d)) → Hears s (suc n) desk (drained s (suc n) desk)

@@ -1,5 +1,5 @@
 -- What every event keeps, and what holds of the decisions of a whole run.
-use Rattle.std.proofs.Common.{◌≡◌, ℕ, ◌+◌, ◌≤◌, List, [], ◌∷◌, ◌++◌, length, Bool, true, false, cond, Option, Some, None, refl, sym, subst, append_assoc, length-append, arith}
+use Rattle.std.proofs.Common.{◌≡◌, ℕ, ◌+◌, ◌≤◌, List, [], ◌∷◌, ◌++◌, length, Bool, true, false, cond, Option, Some, None, refl, subst, length-append, arith}
 use Rattle.std.specs.Prelude.{map, unwrap_or}
 use Rattle.std.specs.Ordering.{nat_cmp}
 use Rattle.std.specs.FinMap.{get-empty}
@@ -20,11 +20,12 @@ use Rattle.storage_model.specs.declared.request.FetchAsked.{FetchAsked}
 use Rattle.storage_model.specs.declared.request.Value.{Value}
 use Rattle.storage_model.specs.Requests.{is_sound, is_sound_fetch}
 use Rattle.storage_model.specs.Decisions.{Decision, IsLegalFrom, IsLegal, IsOnce}
-use Rattle.storage_model.specs.Laws.{IsKeyOf, AreSound}
-use Rattle.storage_model.proofs.OnceLaw.{sound_front}
+use Rattle.storage_model.specs.Laws.{IsKeyOf, IsSound, AreSound}
 use Rattle.storage_model.proofs.Whole.{once}
-use Rattle.storage_model.proofs.Lasts.{last_given}
-use Rattle.storage_model.proofs.Permitted.{permitted_all}
+use Rattle.overlay_laws.specs.Gives.{GivesLastPuts, GivesAtDecisions, HoldsPermitted, InTime}
+use Rattle.overlay_laws.proofs.Lists.{all_both}
+use Rattle.overlay_laws.proofs.Clocks.{AreAt, IsTimed, timed_none, timed-append}
+use Rattle.overlay_laws.proofs.Gives.{gives_last_puts, gives_at_decisions, holds_permitted}
 use Rattle.scenario_text.specs.declared.scenario.Scenario.{Scenario}
 use Rattle.request_words.specs.declared.node.DeclaredNode.{DeclaredNode}
 use Rattle.scenario_text.specs.declared.scenario.Event.{Event}
@@ -37,15 +38,15 @@ use Rattle.request_words.specs.declared.value.ValueWord.{ValueWord}
 use Rattle.request_words.specs.declared.resource.ResourceName.{ResourceName}
 use Rattle.request_words.specs.Values.{IsSlotKey, IsValue}
 use Rattle.request_words.specs.Groups.{IsGroup}
+use Rattle.scenario_moves.specs.Moves.{stored_of, specifier_of}
 use Rattle.scenario_text.specs.Desk.{has_key, admits_group, are_declared, admits}
 use Rattle.scenario_text.specs.Sayings.{IsEvent}
 use Rattle.scenario_text.specs.Scenarios.{IsEventOf, IsScenario}
 use Rattle.overlay_command.specs.declared.desk.Desk.{Desk}
 use Rattle.overlay_command.specs.declared.desk.Issued.{Issued}
-use Rattle.overlay_command.specs.Desks.{Done, quiet, empty_desk, node_of, stored_of, value_of, kind_of_group, store_of, specifier_of, fetch_of, issued_as, issued, asked_by, delivered, drained, stepped, decisions_from, decisions}
-use Rattle.overlay_command.specs.Due.{GivesLastPuts, GivesAtDecisions, HoldsPermitted, InTime}
+use Rattle.overlay_command.specs.Desks.{Done, quiet, empty_desk, node_of, value_of, kind_of_group, store_of, fetch_of, issued_as, issued, asked_by, delivered, drained, stepped, decisions_from, decisions}
 use Rattle.overlay_command.specs.Bounds.{model_under, AreKeysOf, IsSoundRequest, AreSoundRequests, IsKept}
-use Rattle.overlay_command.proofs.Hears.{AreAt, Hears, hears_delivered, hears_drained, sound-append}
+use Rattle.overlay_command.proofs.Hears.{Hears, hears_delivered, hears_drained}
 
 -- ---- what every event keeps
 
@@ -197,54 +198,25 @@ moves s n desk line (Drain m) is admitted kept = moves_hearing s n m desk (drain
 
 -- ---- whole runs
 
-abbrev pub AreFrom : ℕ → List Decision → Type 0
-AreFrom clock ds = AllByRecursion (λ d. clock ≤ d.time) ds
-
-from_less : (n m : ℕ) (ds : List Decision) → n ≤ m → AreFrom m ds → AreFrom n ds
-from_less n m [] le all = tt
-from_less n m (d ∷ ds) le all = (omega (arith, le, all.0), from_less n m ds le all.1)
-
-from-append : (n clock : ℕ) (ds es : List Decision) → n ≡ clock → AreAt clock ds → AreFrom clock es → AreFrom n (ds ++ es)
-from-append n clock [] es same first later = from_less n clock es (omega (arith, same)) later
-from-append n clock (d ∷ ds) es same first later = (omega (arith, same, first.0), from-append n clock ds es same first.1 later)
-
-in_time-append : (clock : ℕ) (ds es : List Decision) → AreAt clock ds → AreFrom clock es → InTime es → InTime (ds ++ es)
-unfolding InTime
-in_time-append clock [] es first later rest = rest
-in_time-append clock (d ∷ ds) es first later rest = (from-append d.time clock ds es first.0 first.1 later, in_time-append clock ds es first.1 later rest)
-
 -- the decisions of the events from a desk on
 record IsRunFrom (s : Scenario) (desk : Desk) (ds : List Decision) : Type 0 where
   legal : IsLegalFrom desk.shelf ds
   sound : AreSound (model_under s.config) ds
-  since : AreFrom desk.clock ds
-  in_time : InTime ds
+  timed : IsTimed desk.clock ds
 
 run_from : (s : Scenario) (n : ℕ) (desk : Desk) (es : List Event) → AllByRecursion (IsEventOf s.config s.nodes) es → IsKept s.config n desk → IsRunFrom s desk (decisions_from s desk es)
-unfolding decisions_from IsLegalFrom InTime
-run_from s n desk [] are kept = record { legal = tt; sound = tt; since = tt; in_time = tt }
+unfolding decisions_from IsLegalFrom
+run_from s n desk [] are kept = record { legal = tt; sound = tt; timed = timed_none desk.clock }
 run_from s n desk (e ∷ es) are kept =
     let done : Done = stepped s desk e.line e.what in
     let step = moves s n desk e.line e.what are.0.0 are.0.1 kept in
     let rest = run_from s (n + 1) done.desk es are.1 step.kept in
     let ds : List Decision = decisions_from s done.desk es in
-    let later = from_less desk.clock done.desk.clock ds step.clock rest.since in
     record {
       legal = step.legal ds rest.legal;
-      sound = sound-append s done.decided ds step.sound rest.sound;
-      since = from-append desk.clock desk.clock done.decided ds refl step.times later;
-      in_time = in_time-append desk.clock done.decided ds step.times later rest.in_time;
+      sound = all_both (IsSound (model_under s.config)) done.decided ds step.sound rest.sound;
+      timed = timed-append desk.clock done.desk.clock done.decided ds step.clock step.times rest.timed;
     }
-
--- each of these is at most as late as the next
-at_next : (n : ℕ) (before after : List Decision) (d : Decision) → AreFrom n (before ++ d ∷ after) → n ≤ d.time
-at_next n [] after d all = all.0
-at_next n (e ∷ before) after d all = at_next n before after d all.1
-
-before_next : (before after : List Decision) (d : Decision) → InTime (before ++ d ∷ after) → AllByRecursion (λ e. e.time ≤ d.time) before
-unfolding InTime
-before_next [] after d all = tt
-before_next (e ∷ before) after d all = (at_next e.time before after d all.0, before_next before after d all.1)
 
 -- what holds of the decisions of a run
 pub record IsSoundRun (ds : List Decision) : Type 0 where
@@ -258,15 +230,13 @@ pub record IsSoundRun (ds : List Decision) : Type 0 where
 sound_run : (s : Scenario) (ds : List Decision) → IsRunFrom s empty_desk ds → IsSoundRun ds
 sound_run s ds run =
     let models : ℕ → DataModel = model_under s.config in
-    let front : (before after : List Decision) → before ++ after ≡ ds → AreSound models before = λ before after same. (sound_front models before after (subst (λ (all : List Decision). AreSound models all) (sym same) run.sound)).0 in
-    let gives : GivesLastPuts ds = λ before after same now times resource kind key. last_given models before now resource kind key (front before after same) times in
     record {
       legal = run.legal;
       once = once models ds run.sound;
-      in_time = run.in_time;
-      gives = gives;
-      gives_then = λ before after d same. gives before (d ∷ after) same d.time (before_next before after d (subst (λ (all : List Decision). InTime all) (sym same) run.in_time));
-      permitted = λ before after same resource kind key held is. permitted_all models before resource kind key held (front before after same) is;
+      in_time = run.timed.in_time;
+      gives = gives_last_puts models ds run.sound;
+      gives_then = gives_at_decisions models ds run.sound run.timed.in_time;
+      permitted = holds_permitted models ds run.sound;
     }
 
 pub run_is_sound : (s : Scenario) → IsScenario s → IsSoundRun (decisions s)

@@ -12,7 +12,7 @@ use Rattle.request_words.specs.declared.data.Data.{Data}
 use Rattle.request_words.specs.declared.data.Data.TheVariants.{Nonexistent, Bytes, Fill}
 use Rattle.request_words.specs.declared.value.ValueWord.{ValueWord}
 use Rattle.request_words.specs.Values.{IsSlotKey, IsData, IsValue}
-use Rattle.overlay_command.specs.Desks.{bytes_of, blank_signature, stored_of}
+use Rattle.scenario_moves.specs.Moves.{bytes_of, blank_signature, stored_of}
 
 bytes_small : (content : Data) → IsData content → length (bytes_of content) ≤ 200000
 bytes_small Nonexistent is = omega arith

@@ -1,16 +1,10 @@
 -- A run of a scenario: what each event makes of the desk, writes and decides.
-use Rattle.std.specs.Prelude.{ℕ, zero, suc, ◌+◌, ◌-◌, ◌*◌, ◌^◌, ◌==◌, ◌||◌, nat_lt, Bool, true, false, not, List, [], ◌∷◌, ◌++◌, length, map, replicate, codes, find, slice_get, slice_set, position, Option, Some, unwrap_or, if◌then◌else◌}
+use Rattle.std.specs.Prelude.{ℕ, zero, suc, ◌+◌, ◌-◌, ◌*◌, ◌^◌, ◌==◌, ◌||◌, nat_lt, Bool, true, false, not, List, [], ◌∷◌, ◌++◌, length, map, find, slice_get, slice_set, position, Option, Some, unwrap_or, if◌then◌else◌}
 use Rattle.std.specs.Option.{option_map_or}
 use Rattle.std.specs.FinMap.{empty}
-use Rattle.reload_ids.specs.Ids.{resource_id}
-use Rattle.wire_core.specs.declared.signature.Signature.{Signature}
-use Rattle.wire_core.specs.declared.signature.SignerIdentity.TheVariants as signers
 use Rattle.security_block.specs.declared.about.About.{About}
 use Rattle.text_words.specs.Lines.{ended}
-use Rattle.text_words.specs.Separator.{byte_of}
 use Rattle.data_models.specs.declared.config.Config.{Config}
-use Rattle.data_models.specs.declared.stored_data.StoredData.{StoredData}
-use Rattle.data_models.specs.declared.fetched.Specifier.{Specifier}
 use Rattle.data_models.specs.Stored.{stored_size}
 use Rattle.storage_model.specs.declared.request.Value.{Value}
 use Rattle.storage_model.specs.declared.request.AskedKind.{AskedKind}
@@ -31,11 +25,8 @@ use Rattle.scenario_text.specs.declared.scenario.StoreEvent.{StoreEvent}
 use Rattle.request_words.specs.declared.groups.GroupWords.{GroupWords}
 use Rattle.request_words.specs.declared.value.ValueWord.{ValueWord}
 use Rattle.scenario_text.specs.declared.scenario.FetchEvent.{FetchEvent}
-use Rattle.request_words.specs.declared.specifier.SpecifierWord.{SpecifierWord}
 use Rattle.request_words.specs.declared.resource.ResourceName.{ResourceName}
-use Rattle.request_words.specs.declared.resource.ResourceName.TheVariants.{Name, Id}
-use Rattle.request_words.specs.declared.data.Data.{Data}
-use Rattle.request_words.specs.declared.data.Data.TheVariants.{Nonexistent, Bytes, Fill}
+use Rattle.scenario_moves.specs.Moves.{id_of_resource, stored_of, specifier_of}
 use Rattle.scenario_text.specs.Echo.{echo}
 use Rattle.transcript_text.specs.Transcript.{decide_line, answer_line, refused_line, end_line}
 use Rattle.overlay_command.specs.declared.desk.Issued.{Issued}
@@ -54,42 +45,6 @@ node_of s number = find (λ node. node.number == number) s.nodes
 -- whom a client's values name as their signer
 abbrev pub about_client : DeclaredNode → About
 about_client client = record { peer = false; node = client.node; user = client.user }
-
--- the Resource-ID that a scenario names
-abbrev pub id_of_resource : ResourceName → ℕ
-id_of_resource (Name name) = resource_id name
-id_of_resource (Id resource) = resource.0
-
--- whether a value exists, and its bytes
-abbrev pub is_present : Data → Bool
-is_present Nonexistent = false
-is_present (Bytes bytes) = true
-is_present (Fill n) = true
-
-abbrev pub bytes_of : Data → List ℕ
-bytes_of Nonexistent = []
-bytes_of (Bytes bytes) = bytes
-bytes_of (Fill n) = replicate n (byte_of (codes "a"))
-
--- a signature as long as those of the stand-in signer; nobody looks at it
-unfoldable pub blank_signature : Signature
-blank_signature = record {
-  hash = 4;
-  algorithm = 224;
-  identity = signers.CertHash 4 (replicate 32 0);
-  value = replicate 32 0;
-}
-
--- the StoredData of a value
-unfoldable pub stored_of : ValueWord → StoredData
-stored_of w = record {
-  key = w.key;
-  storage_time = w.storage_time;
-  lifetime = w.lifetime;
-  present = is_present w.value;
-  value = bytes_of w.value;
-  signature = blank_signature;
-}
 
 -- a value of a Store, whose client signs it
 unfoldable pub value_of : DeclaredNode → ValueWord → Value
@@ -116,14 +71,6 @@ store_of config client e =
       kinds = map (kind_of_group client) e.groups;
     } in
     if is_sound config request then asked.Store request else asked.Bad
-
--- a kind of a Fetch
-unfoldable pub specifier_of : SpecifierWord → Specifier
-specifier_of w = record {
-  kind = w.kind;
-  generation = unwrap_or w.generation 0;
-  selector = w.selector;
-}
 
 -- a Fetch; it is bad where it makes no sense
 unfoldable pub fetch_of : Config → FetchEvent → Asked

@@ -2,26 +2,24 @@
 
 ghost use Rattle.std.specs.Prelude.{◌≡◌, ◌+◌, ◌<◌, ◌≤◌, ◌^◌, ◌++◌, length, OnOk, IfOk};
 ghost use Rattle.std.specs.Option.{option_copied};
-ghost use Rattle.storage_model.specs.Records.{record_in};
-ghost use Rattle.storage_model.specs.Decisions.{changed};
 ghost use Rattle.request_words.specs.declared.node.TheConstants.{MAX_NUMBER};
 ghost use Rattle.scenario_text.specs.Lines.Store.{IsStore};
 ghost use Rattle.scenario_text.specs.Scenarios.{IsEventOf, IsScenario};
-ghost use Rattle.transcript_text.specs.Answers.{answer_of};
-ghost use Rattle.overlay_command.specs.Desks.{empty_desk, node_of, issued_as, issued, asked_by, store_of, fetch_of, effect_by, heard_at, delivered, drained, stepped};
-ghost use Rattle.overlay_command.specs.Bounds.{IsDecidable, IsSteady, IsKept};
+ghost use Rattle.overlay_command.specs.Desks.{empty_desk, node_of, issued_as, issued, asked_by, store_of, fetch_of, heard_at, delivered, drained, stepped};
+ghost use Rattle.overlay_command.specs.Bounds.{IsSteady, IsKept};
 
+use crate::decision::decide;
 use crate::heard::Heard;
-use crate::requests::{fetch_of, id_of_resource, store_of};
-use data_models::Config;
+use crate::requests::{fetch_of, store_of};
 use kind_store::Shelf;
 use reload_base::{Bytes, List, NoMemory};
 use reload_ids::{NodeId, ResourceId};
 use request_words::{DeclaredNode, ResourceName};
+use scenario_moves::id_of_resource;
 use scenario_text::{Event, EventKind, FetchEvent, Scenario, StoreEvent};
 use std::alloc::Global;
-use storage_model::{Asked, Refusal};
-use transcript_text::{DecisionLine, Told, put_answer_line, put_decide_line, put_refused_line};
+use storage_model::Asked;
+use transcript_text::{DecisionLine, put_answer_line, put_decide_line, put_refused_line};
 
 /// A request that was issued.
 #[derive(Debug, Drop)]
@@ -60,34 +58,6 @@ fn node_of(scenario: &Scenario, number: u32) -> Option<&DeclaredNode>
         .as_slice()
         .iter()
         .find(|node| node.number == number)
-}
-
-// What the peer makes of a request, with its records.
-fn decide(
-    alloc: Global,
-    shelf: &mut Shelf,
-    config: &Config,
-    now: u64,
-    request: &Issued,
-) -> Result<Told, NoMemory>
-    requires { IsDecidable config.now now (record_in shelf.old request.now.resource.0)
-        request.now.asked }
-    ensures answer { IfOk result (λ told. answer_of told
-        ≡ (effect_by config.now now shelf.old request.now).answer) }
-    ensures shelf { OnOk result (shelf.new ≡ changed shelf.old request.now.resource.0
-        (effect_by config.now now shelf.old request.now).next) }
-{
-    let (resource, origin, id) = (request.resource, request.origin, request.id);
-    match &request.asked {
-        Asked::Store(store) => Ok(Told::Store(shelf.decide_store(
-            config, now, resource, origin, id, store,
-        )?)),
-        Asked::Fetch(fetch) => Ok(Told::Fetch(shelf.answer_fetch(
-            alloc, config, now, resource, fetch,
-        )?)),
-        Asked::Unsigned => Ok(Told::Refused(Refusal::Forbidden)),
-        Asked::Bad | Asked::Join(_) => Ok(Told::Refused(Refusal::InvalidMessage)),
-    }
 }
 
 impl Desk {

@@ -2,6 +2,7 @@
 #![tactic(auto)]
 
 mod command;
+mod decision;
 mod desk;
 mod form;
 mod heard;

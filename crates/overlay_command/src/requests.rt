@@ -1,88 +1,23 @@
 //! The requests that clients issue.
 
-ghost use Rattle.std.specs.Prelude.{◌≡◌, map, replicate, IfOk};
+ghost use Rattle.std.specs.Prelude.{◌≡◌, map, IfOk};
 ghost use Rattle.std.specs.List.{AllByRecursion};
 ghost use Rattle.data_models.specs.Stored.{stored_size};
 ghost use Rattle.request_words.specs.Values.{IsValue};
 ghost use Rattle.request_words.specs.Groups.{IsGroup, AreGroups};
-ghost use Rattle.overlay_command.specs.Desks.{about_client, id_of_resource, is_present, bytes_of, blank_signature, stored_of, value_of, kind_of_group, store_of, specifier_of, fetch_of};
+ghost use Rattle.scenario_moves.specs.Moves.{stored_of};
+ghost use Rattle.overlay_command.specs.Desks.{about_client, value_of, kind_of_group, store_of, fetch_of};
 
-use data_models::{Config, Specifier, StoredData};
+use data_models::{Config, StoredData};
 use kind_store::{sound, sound_fetch};
-use reload_base::{Bytes, List, NoMemory, TryCopy};
-use reload_ids::{ResourceId, resource_of};
-use request_words::{Data, DeclaredNode, GroupWords, ResourceName, SpecifierWord, ValueWord};
+use reload_base::{List, NoMemory, TryCopy};
+use request_words::{DeclaredNode, GroupWords, ValueWord};
+use scenario_moves::{specifiers_of, stored_of};
 use scenario_text::{FetchEvent, StoreEvent};
 use security_block::About;
 use std::alloc::Global;
 use storage_model::{Asked, AskedKind, AskedValues, FetchAsked, StoreAsked, Value};
-use wire_core::{Signature, SignerIdentity, Spell};
-
-/// The Resource-ID that a scenario names.
-pub fn id_of_resource(resource: &ResourceName) -> ResourceId
-    ensures { result.0 ≡ id_of_resource resource.now }
-{
-    match resource {
-        ResourceName::Name(name) => resource_of(name.as_slice()),
-        ResourceName::Id(resource) => *resource,
-    }
-}
-
-fn is_present(value: &Data) -> bool
-    ensures { result ≡ is_present value.now }
-{
-    match value {
-        Data::Nonexistent => false,
-        Data::Bytes(_) | Data::Fill(_) => true,
-    }
-}
-
-// So many times the same byte.
-fn filled(alloc: Global, byte: u8, count: usize) -> Result<Bytes, NoMemory>
-    ensures { IfOk result (λ bytes. bytes ≡ replicate count byte) }
-{
-    Ok(Bytes::from_vec(vec![in alloc; byte; count]?))
-}
-
-fn bytes_of(alloc: Global, value: &Data) -> Result<Bytes, NoMemory>
-    ensures { IfOk result (λ bytes. bytes ≡ bytes_of value.now) }
-{
-    match value {
-        Data::Nonexistent => Ok(Bytes::new(alloc)),
-        Data::Bytes(bytes) => bytes.copy(alloc),
-        Data::Fill(count) => filled(alloc, b'a', *count as usize),
-    }
-}
-
-// A signature as long as those of the stand-in signer.
-#[tactic(auto, unfolding(crate::specs::Desks::blank_signature))]
-fn blank_signature(alloc: Global) -> Result<Signature, NoMemory>
-    ensures { IfOk result (λ signature. signature ≡ blank_signature) }
-{
-    Ok(Signature {
-        hash: 4,
-        algorithm: 224,
-        identity: SignerIdentity::CertHash {
-            alg: 4,
-            hash: filled(alloc, 0, 32)?,
-        },
-        value: filled(alloc, 0, 32)?,
-    })
-}
-
-#[tactic(auto, unfolding(crate::specs::Desks::stored_of))]
-fn stored_of(alloc: Global, word: &ValueWord) -> Result<StoredData, NoMemory>
-    ensures { IfOk result (λ stored. stored ≡ stored_of word.now) }
-{
-    Ok(StoredData {
-        key: word.key.copy(alloc)?,
-        storage_time: word.storage_time,
-        lifetime: word.lifetime,
-        present: is_present(&word.value),
-        value: bytes_of(alloc, &word.value)?,
-        signature: blank_signature(alloc)?,
-    })
-}
+use wire_core::Spell;
 
 fn about_client(alloc: Global, client: &DeclaredNode) -> Result<About, NoMemory>
     ensures { IfOk result (λ about. about ≡ about_client client.now) }
@@ -187,28 +122,6 @@ pub fn store_of(
     } else {
         Ok(Asked::Bad)
     }
-}
-
-#[tactic(auto, unfolding(crate::specs::Desks::specifier_of))]
-fn specifier_of(alloc: Global, word: &SpecifierWord) -> Result<Specifier, NoMemory>
-    ensures { IfOk result (λ specifier. specifier ≡ specifier_of word.now) }
-{
-    Ok(Specifier {
-        kind: word.kind,
-        generation: word.generation.unwrap_or(0),
-        selector: word.selector.copy(alloc)?,
-    })
-}
-
-fn specifiers_of(alloc: Global, words: &[SpecifierWord]) -> Result<List<Specifier>, NoMemory>
-    ensures { IfOk result (λ specifiers. specifiers ≡ map specifier_of words.now) }
-{
-    let mut specifiers = List::new(alloc);
-    specifiers.reserve(words.len())?;
-    for word in words {
-        specifiers.push(specifier_of(alloc, word)?)?;
-    }
-    Ok(specifiers)
 }
 
 /// A Fetch under the scenario's configuration.

@@ -160,11 +160,16 @@ place_text peer time resource =
     codes "decide" ++ spaced (decimal peer) ++ spaced (decimal time) ++ spaced (id_text resource)
 
 -- decide P T RES REQUEST -> ANSWER
-unfoldable pub decide_line : List DeclaredNode → Decision → List ℕ
-decide_line nodes d =
-    place_text d.peer d.time d.resource ++ spaced (request_text nodes d.origin.0 d.id d.asked)
+unfoldable pub decided_line : List DeclaredNode → ℕ → ℕ → ℕ → ℕ → ℕ → Asked → Answer → List ℕ
+decided_line nodes peer time resource origin id request answer =
+    place_text peer time resource ++ spaced (request_text nodes origin id request)
     ++ spaced (codes "->")
-    ++ answer_text d.answer
+    ++ answer_text answer
+
+-- the line of a decision, whatever its configuration
+abbrev pub decide_line : List DeclaredNode → Decision → List ℕ
+decide_line nodes d =
+    decided_line nodes d.peer d.time d.resource d.origin.0 d.id d.asked d.answer
 
 -- answer H.L ANSWER
 unfoldable pub answer_line : ℕ → Answer → List ℕ

@@ -4,28 +4,14 @@ ghost use Rattle.std.specs.Prelude.{◌≡◌, ◌++◌};
 ghost use Rattle.std.specs.List.{flat_map};
 ghost use Rattle.text_words.specs.Codec.{Appended, AppendedSome};
 ghost use Rattle.text_words.specs.Lines.{ended, spaced_by};
-ghost use Rattle.transcript_text.specs.Answers.{answer_of};
 ghost use Rattle.transcript_text.specs.Transcript.{answer_line, answer_text, code_text, found_kind, found_values};
 ghost use Rattle.transcript_text.specs.Words.{counter_text};
 
 use crate::value::{put_all_stored, put_head, put_next_raw};
 use data_models::{KindValues, StoreKind};
 use reload_base::{Bytes, NoMemory};
-use storage_model::{FetchVerdict, Refusal, StoreVerdict};
+use storage_model::Answer;
 use text_words::{all_or_nothing, put_decimal, put_transaction};
-
-/// An answer as a line tells it.
-#[derive(Debug, Drop)]
-pub enum Told {
-    /// The answer to a Store.
-    Store(StoreVerdict),
-    /// The answer to a Fetch.
-    Fetch(FetchVerdict),
-    /// An error.
-    Refused(Refusal),
-    /// A joiner is admitted.
-    Joined,
-}
 
 #[tactic(auto, unfolding(crate::specs::Words::counter_text))]
 fn put_counter(out: &mut Bytes, counter: (u32, u64)) -> Result<(), NoMemory>
@@ -44,13 +30,22 @@ fn put_next_counter(out: &mut Bytes, counter: (u32, u64)) -> Result<(), NoMemory
     put_counter(out, counter)
 }
 
-fn put_counters(out: &mut Bytes, counters: &[(u32, u64)]) -> Result<(), NoMemory>
+fn put_all_counters(out: &mut Bytes, counters: &[(u32, u64)]) -> Result<(), NoMemory>
     ensures { AppendedSome out.old out.new (flat_map (spaced_by counter_text) counters.now) result }
 {
     for counter in counters {
         put_next_counter(out, *counter)?;
     }
     Ok(())
+}
+
+/// Appends `K:G` for each Kind-ID and its generation counter, each word behind a space.
+pub fn put_counters(out: &mut Bytes, counters: &[(u32, u64)]) -> Result<(), NoMemory>
+    ensures { Appended out.old out.new (flat_map (spaced_by counter_text) counters.now) result }
+{
+    let before = out.len();
+    let appended = put_all_counters(out, counters);
+    all_or_nothing(out, before, appended)
 }
 
 #[tactic(auto, unfolding(crate::specs::Transcript::code_text))]
@@ -93,7 +88,7 @@ fn put_next_kind(out: &mut Bytes, kind: &StoreKind) -> Result<(), NoMemory>
     put_found_kind(out, kind)
 }
 
-fn put_found_kinds(out: &mut Bytes, kinds: &[StoreKind]) -> Result<(), NoMemory>
+fn put_all_kinds(out: &mut Bytes, kinds: &[StoreKind]) -> Result<(), NoMemory>
     ensures { AppendedSome out.old out.new (flat_map (spaced_by found_kind) kinds.now) result }
 {
     for kind in kinds {
@@ -102,24 +97,30 @@ fn put_found_kinds(out: &mut Bytes, kinds: &[StoreKind]) -> Result<(), NoMemory>
     Ok(())
 }
 
+/// Appends `kind=ID/GEN` and the values that were found of each kind, each word behind a space.
+pub fn put_found_kinds(out: &mut Bytes, kinds: &[StoreKind]) -> Result<(), NoMemory>
+    ensures { Appended out.old out.new (flat_map (spaced_by found_kind) kinds.now) result }
+{
+    let before = out.len();
+    let appended = put_all_kinds(out, kinds);
+    all_or_nothing(out, before, appended)
+}
+
 /// Appends ANSWER, each word behind a space.
 #[tactic(auto, unfolding(crate::specs::Transcript::answer_text))]
-pub fn put_answer(out: &mut Bytes, answer: &Told) -> Result<(), NoMemory>
-    ensures { AppendedSome out.old out.new (answer_text (answer_of answer.now)) result }
+pub fn put_answer(out: &mut Bytes, answer: &Answer) -> Result<(), NoMemory>
+    ensures { AppendedSome out.old out.new (answer_text answer.now) result }
 {
     match answer {
-        Told::Store(verdict) => put_decided(out, verdict.code, verdict.counters.as_slice()),
-        Told::Fetch(FetchVerdict::Values(kinds)) => put_found_kinds(out, kinds.as_slice()),
-        Told::Fetch(FetchVerdict::Refused(cause)) | Told::Refused(cause) => {
-            put_decided(out, cause.code(), &[])
-        }
-        Told::Joined => out.extend(b" joined"),
+        Answer::Decided { code, counters } => put_decided(out, *code, counters.as_slice()),
+        Answer::Found { kinds } => put_found_kinds(out, kinds.as_slice()),
+        Answer::Joined => out.extend(b" joined"),
     }
 }
 
 #[tactic(auto, unfolding(crate::specs::Transcript::answer_line))]
-fn put_answer_words(out: &mut Bytes, id: u64, answer: &Told) -> Result<(), NoMemory>
-    ensures { AppendedSome out.old out.new (ended (answer_line id (answer_of answer.now))) result }
+fn put_answer_words(out: &mut Bytes, id: u64, answer: &Answer) -> Result<(), NoMemory>
+    ensures { AppendedSome out.old out.new (ended (answer_line id answer.now)) result }
 {
     out.extend(b"answer ")?;
     put_transaction(out, id)?;
@@ -128,8 +129,8 @@ fn put_answer_words(out: &mut Bytes, id: u64, answer: &Told) -> Result<(), NoMem
 }
 
 /// Appends `answer H.L ANSWER`: the client has the answer to its request.
-pub fn put_answer_line(out: &mut Bytes, id: u64, answer: &Told) -> Result<(), NoMemory>
-    ensures { Appended out.old out.new (ended (answer_line id (answer_of answer.now))) result }
+pub fn put_answer_line(out: &mut Bytes, id: u64, answer: &Answer) -> Result<(), NoMemory>
+    ensures { Appended out.old out.new (ended (answer_line id answer.now)) result }
 {
     let before = out.len();
     let appended = put_answer_words(out, id, answer);

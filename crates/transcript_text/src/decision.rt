@@ -3,16 +3,14 @@
 ghost use Rattle.std.specs.Prelude.{◌≡◌, ◌++◌};
 ghost use Rattle.text_words.specs.Codec.{Appended, AppendedSome};
 ghost use Rattle.text_words.specs.Lines.{ended, spaced};
-ghost use Rattle.data_models.specs.declared.config.Config.{Config};
-ghost use Rattle.transcript_text.specs.Answers.{answer_of};
-ghost use Rattle.transcript_text.specs.Transcript.{decide_line, place_text, request_text};
+ghost use Rattle.transcript_text.specs.Transcript.{decided_line, place_text, request_text};
 
-use crate::answer::{Told, put_answer};
+use crate::answer::put_answer;
 use crate::asked::{Asker, put_request};
 use reload_base::{Bytes, NoMemory};
 use reload_ids::{NodeId, ResourceId};
 use request_words::DeclaredNode;
-use storage_model::Asked;
+use storage_model::{Answer, Asked};
 use text_words::{all_or_nothing, put_decimal, put_id};
 
 // What most decisions take with their answers, in bytes.
@@ -31,7 +29,7 @@ pub struct DecisionLine<'a> {
     /// The transaction id.
     pub id: u64,
     pub asked: &'a Asked,
-    pub answer: &'a Told,
+    pub answer: &'a Answer,
 }
 
 // Finds memory for a decision at once, where it is the first that is told. Behind others there is
@@ -78,23 +76,15 @@ fn put_question(
     put_request(out, nodes, asker, line.asked)
 }
 
-#[tactic(auto, unfolding(crate::specs::Transcript::decide_line))]
+#[tactic(auto, unfolding(crate::specs::Transcript::decided_line))]
 fn put_decide_words(
     out: &mut Bytes,
     nodes: &[DeclaredNode],
     line: &DecisionLine<'_>,
 ) -> Result<(), NoMemory>
-    ensures { (config : Config)
-        → AppendedSome out.old out.new (ended (decide_line nodes.now (record {
-          peer = line.now.peer;
-          time = line.now.time;
-          config = config;
-          resource = line.now.resource.0;
-          origin = line.now.origin;
-          id = line.now.id;
-          asked = line.now.asked.now;
-          answer = answer_of line.now.answer.now;
-        }))) result }
+    ensures { AppendedSome out.old out.new (ended (decided_line nodes.now line.now.peer
+        line.now.time line.now.resource.0 line.now.origin.0 line.now.id line.now.asked.now
+        line.now.answer.now)) result }
 {
     find_room(out)?;
     put_question(out, nodes, line)?;
@@ -103,23 +93,16 @@ fn put_decide_words(
     out.extend(b"\n")
 }
 
-/// Appends `decide P T RES REQUEST -> ANSWER`, whatever the configuration. Nodes have the numbers
-/// by which a scenario declares them; one that it doesn't declare is `?`.
+/// Appends `decide P T RES REQUEST -> ANSWER`. Nodes have the numbers by which a scenario declares
+/// them; one that it doesn't declare is `?`.
 pub fn put_decide_line(
     out: &mut Bytes,
     nodes: &[DeclaredNode],
     line: &DecisionLine<'_>,
 ) -> Result<(), NoMemory>
-    ensures { (config : Config) → Appended out.old out.new (ended (decide_line nodes.now (record {
-      peer = line.now.peer;
-      time = line.now.time;
-      config = config;
-      resource = line.now.resource.0;
-      origin = line.now.origin;
-      id = line.now.id;
-      asked = line.now.asked.now;
-      answer = answer_of line.now.answer.now;
-    }))) result }
+    ensures { Appended out.old out.new (ended (decided_line nodes.now line.now.peer line.now.time
+        line.now.resource.0 line.now.origin.0 line.now.id line.now.asked.now
+        line.now.answer.now)) result }
 {
     let before = out.len();
     let appended = put_decide_words(out, nodes, line);

@@ -8,8 +8,7 @@ use security_block::About;
 use std::alloc::Global;
 use std::test::Fail;
 use storage_model::{
-    Asked, AskedKind, AskedValues, FetchAsked, FetchVerdict, JoinAsked, Refusal, StoreAsked,
-    StoreVerdict, Value,
+    Answer, Asked, AskedKind, AskedValues, FetchAsked, JoinAsked, Refusal, StoreAsked, Value,
 };
 use transcript_text::*;
 use wire_core::{Signature, SignerIdentity};
@@ -48,7 +47,14 @@ fn nodes(alloc: Global) -> Result<List<DeclaredNode>, NoMemory> {
     )
 }
 
-fn line_of(alloc: Global, asked: &Asked, answer: &Told) -> Result<Bytes, NoMemory> {
+fn refused(alloc: Global, cause: Refusal) -> Answer {
+    Answer::Decided {
+        code: cause.code(),
+        counters: List::new(alloc),
+    }
+}
+
+fn line_of(alloc: Global, asked: &Asked, answer: &Answer) -> Result<Bytes, NoMemory> {
     let mut out = List::new(alloc);
     let line = DecisionLine {
         peer: 1,
@@ -84,12 +90,10 @@ fn a_decided_store(rt: HostRuntime) -> Result<(), Fail> {
         sequence: 1,
         kinds: one(rt.alloc(), kind)?,
     });
-    let told = Told::Store(StoreVerdict {
+    let told = Answer::Decided {
         code: 5,
         counters: one(rt.alloc(), (257, 3))?,
-        repeat: false,
-        acted: false,
-    });
+    };
     let line = b"decide 1 0 00000000000000000000000000000001 store 2 2.1 strange \
         kind=257/0 end:5000:60:+6869:2:100 -> error 5 257:3\n";
     assert_eq!(rt;
@@ -118,7 +122,9 @@ fn a_decided_fetch(rt: HostRuntime) -> Result<(), Fail> {
         generation: 5,
         values: KindValues::Known(one(rt.alloc(), stored(rt.alloc(), name, b"")?)?),
     };
-    let told = Told::Fetch(FetchVerdict::Values(one(rt.alloc(), kind)?));
+    let told = Answer::Found {
+        kinds: one(rt.alloc(), kind)?,
+    };
     let line = b"decide 1 0 00000000000000000000000000000001 fetch 2 2.1 max=9 \
         3/4:* -> kind=3/5 =50:5000:60:-\n";
     assert_eq!(rt;
@@ -146,7 +152,9 @@ fn a_kind_without_a_definition(rt: HostRuntime) -> Result<(), Fail> {
         generation: 5,
         values: KindValues::Raw(Bytes::from_slice(rt.alloc(), b"hi")?),
     };
-    let told = Told::Fetch(FetchVerdict::Values(one(rt.alloc(), kind)?));
+    let told = Answer::Found {
+        kinds: one(rt.alloc(), kind)?,
+    };
     let line = b"decide 1 0 00000000000000000000000000000001 fetch 2 2.1 max=0 \
         9/4:?00ff -> kind=9/5 ?6869\n";
     assert_eq!(rt;
@@ -168,7 +176,7 @@ fn a_store_without_a_definition(rt: HostRuntime) -> Result<(), Fail> {
         sequence: 1,
         kinds: one(rt.alloc(), kind)?,
     });
-    let told = Told::Refused(Refusal::UnknownKind);
+    let told = refused(rt.alloc(), Refusal::UnknownKind);
     let line = b"decide 1 0 00000000000000000000000000000001 store 2 2.1 kind=9/4 ?00ff \
         -> error 12\n";
     assert_eq!(rt;
@@ -180,7 +188,7 @@ fn a_store_without_a_definition(rt: HostRuntime) -> Result<(), Fail> {
 
 #[test]
 fn other_lines(rt: HostRuntime) -> Result<(), Fail> {
-    let told = Told::Refused(Refusal::InvalidMessage);
+    let told = refused(rt.alloc(), Refusal::InvalidMessage);
     let bad = b"decide 1 0 00000000000000000000000000000001 bad -> error 20\n";
     assert_eq!(rt;
         line_of(rt.alloc(), &Asked::Bad, &told)?.as_slice(),
@@ -192,7 +200,7 @@ fn other_lines(rt: HostRuntime) -> Result<(), Fail> {
     });
     let joined = b"decide 1 0 00000000000000000000000000000001 join 2 2.1 -> joined\n";
     assert_eq!(rt;
-        line_of(rt.alloc(), &join, &Told::Joined)?.as_slice(),
+        line_of(rt.alloc(), &join, &Answer::Joined)?.as_slice(),
         joined.as_slice()
     );
     let mut out = List::new(rt.alloc());
