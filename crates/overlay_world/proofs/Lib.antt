@@ -1,0 +1,11 @@
+pub mod Folds
+pub mod Nodes
+pub mod Indexes
+pub mod Airs
+pub mod Bytes
+pub mod Sent
+pub mod Frames
+pub mod Flown
+pub mod Drained
+pub mod Told
+pub mod Stopping

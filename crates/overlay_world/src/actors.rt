@@ -1,0 +1,186 @@
+//! The nodes of a world, by number.
+
+ghost use Rattle.std.specs.Prelude.{◌≡◌, ◌<◌, ◌^◌, IfOk, OnOk, OnErr};
+ghost use Rattle.std.specs.List.{list_all};
+ghost use Rattle.std.specs.Option.{option_copied, option_map, option_map_or};
+ghost use Rattle.std.specs.FinMap as map;
+ghost use Rattle.chord_tables.specs.Tables.{ids};
+ghost use Rattle.node_messages.specs.Signed.{words_of};
+ghost use Rattle.node_model.specs.declared.limits.TheConstants.{MAX_LOAD};
+ghost use Rattle.node_model.specs.Nodes.{cause_of};
+ghost use Rattle.run_model.specs.Worlds as model;
+ghost use Rattle.run_model.specs.Stops.{load_of};
+ghost use Rattle.overlay_world.specs.Declarations.{IsDeclared, AreDeclared, with_declared};
+
+use crate::actor::Actor;
+use data_models::Config;
+use node_model::{Input, Outputs};
+use reload_base::{List, NoMemory};
+use reload_ids::NodeId;
+use request_words::{DeclaredNode, Role, is_role};
+use security_block::Signer;
+use std::alloc::Global;
+use std::collections::BTreeMap;
+use std::marker::Model;
+
+/// Nodes by number, found in logarithmic time and changed where they lie. Contracts see the map.
+#[derive(Drop)]
+pub struct Actors {
+    tree: BTreeMap<u32, Actor>,
+}
+
+impl Model for Actors {
+    ghost use Rattle.std.specs.FinMap as map;
+    ghost use Rattle.std.specs.Ordering.{nat_cmp};
+    ghost use Rattle.ordered_tables.specs.Seen.{seen, IsRising};
+    ghost use Rattle.run_model.specs.Worlds as model;
+    ghost use Rattle.overlay_world.specs.Nodes.{actors_code};
+
+    ghost Value = { map.FinMap nat_cmp model.Actor };
+
+    ghost coded = { actors_code };
+
+    ghost view = { λ a. seen (λ k. k) nat_cmp a.tree.entries };
+
+    ghost invariant = { λ a. IsRising (λ k. k) nat_cmp a.tree.entries };
+}
+
+impl Actors {
+    /// The declared nodes at the beginning.
+    pub fn declared(
+        alloc: Global,
+        config: &Config,
+        names: &[DeclaredNode],
+    ) -> Result<Actors, NoMemory>
+        requires { AreDeclared names.now }
+        ensures { IfOk result (λ a. a
+            ≡ model.actors_of config.now (model.peers_in names.now) names.now) }
+    {
+        let peers = peers_in(alloc, names)?;
+        Actors::among(alloc, config, peers.as_slice(), names)
+    }
+
+    /// The declared nodes at the beginning, where these are the peers.
+    fn among(
+        alloc: Global,
+        config: &Config,
+        peers: &[NodeId],
+        names: &[DeclaredNode],
+    ) -> Result<Actors, NoMemory>
+        requires { AreDeclared names.now }
+        ensures { IfOk result (λ a. a ≡ model.actors_of config.now (ids peers.now) names.now) }
+    {
+        let mut actors = Actors::new(alloc);
+        let mut left = names;
+        while let Some((last, before)) = left.split_last() {
+            actors.add(alloc, config, peers, last)?;
+            left = before;
+        }
+        Ok(actors)
+    }
+
+    /// No nodes.
+    fn new(alloc: Global) -> Actors
+        ensures { result ≡ map.empty }
+    {
+        Actors {
+            tree: BTreeMap::new(alloc),
+        }
+    }
+
+    /// Adds a declared node, if it does something itself.
+    #[tactic(auto, unfolding(crate::specs::Declarations::with_declared))]
+    fn add(
+        &mut self,
+        alloc: Global,
+        config: &Config,
+        peers: &[NodeId],
+        name: &DeclaredNode,
+    ) -> Result<(), NoMemory>
+        requires { IsDeclared name.now }
+        ensures { OnOk result (self.new
+            ≡ with_declared config.now (ids peers.now) name.now self.old) }
+    {
+        if let Some(actor) = Actor::declared(alloc, config, peers, name)? {
+            self.insert(name.number, actor)?;
+        }
+        Ok(())
+    }
+
+    /// Puts a node at a number.
+    fn insert(&mut self, number: u32, actor: Actor) -> Result<(), NoMemory>
+        ensures { OnOk result (self.new ≡ map.insert self.old number actor) }
+    {
+        self.tree.insert(number, actor)?;
+        Ok(())
+    }
+
+    /// The node with a number.
+    pub fn get(&self, number: u32) -> Option<&Actor>
+        ensures { option_copied result ≡ map.get self.now number }
+    {
+        self.tree.get(&number)
+    }
+
+    /// The node with a number handles an input, at a clock in milliseconds: what it puts out, or
+    /// none where there is no such node. It needs a load below `MAX_LOAD`. After `NoMemory`, the
+    /// only refusal, all nodes are as before.
+    pub fn handle<G: Signer>(
+        &mut self,
+        alloc: Global,
+        number: u32,
+        now: u64,
+        input: Input<'_>,
+        signer: &G,
+    ) -> Result<Option<Outputs>, NoMemory>
+        requires clock { now < 2 ^ 62 }
+        requires light { load_of (map.get self.old number) < MAX_LOAD }
+        // What it puts out.
+        ensures outputs { let words = words_of G.certificate_of G.signature_of G.about_of G.verifies
+            signer.now
+            in IfOk result (λ o. o
+            ≡ option_map (λ a. (model.acts words now (cause_of input.entry) a).outputs)
+            (map.get self.old number)) }
+        // What the nodes are afterwards.
+        ensures actors { let words = words_of G.certificate_of G.signature_of G.about_of G.verifies
+            signer.now
+            in OnOk result (self.new
+            ≡ option_map_or (λ a. map.insert self.old number
+            (model.acts words now (cause_of input.entry) a).node)
+            (map.get self.old number) self.old) }
+        ensures err { OnErr result (self.new ≡ self.old) }
+    {
+        let Some(actor) = self.tree.get_mut(&number) else {
+            return Ok(None);
+        };
+        Ok(Some(actor.handle(alloc, now, input, signer)?))
+    }
+
+    /// Whether no peer comes or goes, and nothing that a peer sent waits for an answer.
+    pub fn settled(&self) -> bool
+        ensures { result ≡ list_all (λ a. model.is_still a.1) (map.entries self.now) }
+    {
+        all_still(&self.tree)
+    }
+}
+
+/// Whether nothing of any node is under way.
+fn all_still(actors: &BTreeMap<u32, Actor>) -> bool
+    ensures { result ≡ list_all (λ a. model.is_still a.1) actors.now.entries }
+{
+    actors.iter().all(|(_, actor)| actor.still())
+}
+
+/// The peers that are declared.
+#[tactic(auto, unfolding(run_model::specs::Worlds::peers_in))]
+fn peers_in(alloc: Global, names: &[DeclaredNode]) -> Result<List<NodeId>, NoMemory>
+    ensures { IfOk result (λ peers. ids peers ≡ model.peers_in names.now) }
+{
+    let mut peers = List::new(alloc);
+    for name in names {
+        if is_role(Role::Peer, name.role) {
+            peers.push(name.node)?;
+        }
+    }
+    Ok(peers)
+}

@@ -1,0 +1,143 @@
+//! Clients that are told to ask something.
+
+ghost use Rattle.std.specs.Prelude.{◌≡◌, ◌≤◌, IfOk, IfErr, OnOk};
+ghost use Rattle.reload_base.specs.Outside.{size_of};
+ghost use Rattle.node_messages.specs.Signed.{words_of};
+ghost use Rattle.node_model.specs.Nodes.{Commanded};
+ghost use Rattle.run_model.specs.declared.limits.TheConstants.{MAX_AIR};
+ghost use Rattle.run_model.specs.declared.moves.Move.TheVariants as events;
+ghost use Rattle.run_model.specs.Worlds as worlds;
+ghost use Rattle.run_model.specs.Moves as moves;
+ghost use Rattle.run_model.specs.Stops.{frames_in, IsNodeFull};
+ghost use Rattle.overlay_world.specs.Sendings.{Halts, IsHeavy};
+ghost use Rattle.overlay_world.specs.Steps.{asked_by};
+
+use crate::acting::{act, is_asked, is_busy};
+use crate::fault::StepFault;
+use crate::refusing::refused;
+use crate::sending::put_out;
+use crate::world::World;
+use node_model::{Command, Input};
+use reload_base::{Air, List};
+use reload_ids::NodeId;
+use run_model::Happening;
+use security_block::Signer;
+use std::alloc::Global;
+
+/// A command to the peer with a Node-ID.
+fn aimed(command: Command, peer: NodeId) -> Command
+    ensures { result ≡ moves.aimed command peer }
+{
+    match command {
+        Command::Store(mut command) => {
+            command.peer = peer;
+            Command::Store(command)
+        }
+        Command::Fetch(mut command) => {
+            command.peer = peer;
+            Command::Fetch(command)
+        }
+    }
+}
+
+impl World {
+    /// The node with a number is told to do something.
+    fn command<A: Air, G: Signer>(
+        &mut self,
+        alloc: Global,
+        number: u32,
+        command: Command,
+        air: &mut A,
+        signer: &G,
+    ) -> Result<List<Happening>, StepFault>
+        requires air { (A.view air.old).sent ≡ frames_in self.old }
+        requires room { size_of (A.view air.old).sent ≤ MAX_AIR }
+        ensures world { let words = words_of G.certificate_of G.signature_of G.about_of G.verifies
+            signer.now in OnOk result (self.new
+            ≡ (worlds.handled words number (Commanded command) self.old).world) }
+        ensures happened { let words = words_of G.certificate_of G.signature_of G.about_of
+            G.verifies signer.now in IfOk result (λ all. all
+            ≡ (worlds.handled words number (Commanded command) self.old).happened) }
+        ensures air { let words = words_of G.certificate_of G.signature_of G.about_of G.verifies
+            signer.now in OnOk result (A.view air.new ≡ record (A.view air.old) {
+              sent = frames_in (worlds.handled words number (Commanded command) self.old).world;
+            }) }
+        ensures room { OnOk result (size_of (A.view air.new).sent ≤ MAX_AIR) }
+        ensures stopped { let words = words_of G.certificate_of G.signature_of G.about_of G.verifies
+            signer.now in IfErr result (
+            Halts (frames_in (worlds.handled words number (Commanded command) self.old).world)
+            (IsHeavy number self.old) (A.view air.old) (A.view air.new)) }
+    {
+        let mut happened = List::new(alloc);
+        let input = Input::Command(command);
+        let outputs = act(alloc, &mut self.actors, number, self.clock, input, signer)?;
+        let Some(outputs) = outputs else {
+            return Ok(happened);
+        };
+        put_out(
+            alloc,
+            air,
+            &self.names,
+            &mut self.flights,
+            number,
+            outputs,
+            &mut happened,
+        )?;
+        Ok(happened)
+    }
+
+    /// The Node-ID of the peer that a client asks, or why the event at a line is refused.
+    #[tactic(auto, unfolding(crate::specs::Steps::asked_by))]
+    fn asked_by(&self, line: u64, client: u32, peer: u32) -> Result<NodeId, Happening>
+        ensures { result ≡ asked_by line client peer self.now }
+    {
+        if !is_asked(&self.actors, peer) {
+            return Err(Happening::UnknownNode { line });
+        }
+        let Some(id) = self.names.node_of(peer) else {
+            return Err(Happening::UnknownNode { line });
+        };
+        match is_busy(&self.actors, client) {
+            None => Err(Happening::UnknownNode { line }),
+            Some(true) => Err(Happening::Busy { line }),
+            Some(false) => Ok(id),
+        }
+    }
+
+    /// A client is told to ask something of a peer: both must be there, and the client not busy.
+    pub(crate) fn ask<A: Air, G: Signer>(
+        &mut self,
+        alloc: Global,
+        line: u64,
+        client: u32,
+        peer: u32,
+        command: Command,
+        air: &mut A,
+        signer: &G,
+    ) -> Result<List<Happening>, StepFault>
+        requires air { (A.view air.old).sent ≡ frames_in self.old }
+        requires room { size_of (A.view air.old).sent ≤ MAX_AIR }
+        ensures world { let words = words_of G.certificate_of G.signature_of G.about_of G.verifies
+            signer.now in OnOk result (self.new
+            ≡ (moves.told words line client peer (moves.aimed command) self.old).world) }
+        ensures happened { let words = words_of G.certificate_of G.signature_of G.about_of
+            G.verifies signer.now in IfOk result (λ all. all
+            ≡ (moves.told words line client peer (moves.aimed command) self.old).happened) }
+        ensures air { let words = words_of G.certificate_of G.signature_of G.about_of G.verifies
+            signer.now in OnOk result (A.view air.new ≡ record (A.view air.old) {
+              sent = frames_in
+                  (moves.told words line client peer (moves.aimed command) self.old).world;
+            }) }
+        ensures room { OnOk result (size_of (A.view air.new).sent ≤ MAX_AIR) }
+        ensures stopped { let words = words_of G.certificate_of G.signature_of G.about_of G.verifies
+            signer.now in IfErr result (Halts
+            (frames_in (moves.told words line client peer (moves.aimed command) self.old).world)
+            (IsNodeFull words (events.Ask client peer command) self.old)
+            (A.view air.old) (A.view air.new)) }
+    {
+        match self.asked_by(line, client, peer) {
+            Ok(id) => self.command(alloc, client, aimed(command, id), air, signer),
+            Err(why) => refused(alloc, why),
+        }
+    }
+}

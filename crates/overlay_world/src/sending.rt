@@ -1,0 +1,140 @@
+//! What nodes put out: frames that they send, and what they tell.
+
+ghost use Rattle.std.specs.Prelude.{◌≡◌, ◌<◌, ◌≤◌, ◌++◌, All, length, map, IfOk, IfErr, OnOk};
+ghost use Rattle.reload_base.specs.Outside.{size_of};
+ghost use Rattle.run_model.specs.declared.happening.Happening.TheVariants.{Tells};
+ghost use Rattle.run_model.specs.declared.limits.TheConstants.{MAX_AIR};
+ghost use Rattle.run_model.specs.Worlds.{flight_of};
+ghost use Rattle.run_model.specs.Stops.{air_frame};
+ghost use Rattle.overlay_world.specs.Sendings.{sent_by, HasBytes, with_frame, with_frames, IsUnsent, Halts, IsNone};
+
+use crate::fault::StepFault;
+use crate::names::Names;
+use frames_in_flight::Flights;
+use node_model::{Notice, Outputs};
+use reload_base::{Air, Bytes, List, NoMemory, Sent};
+use reload_ids::NodeId;
+use run_model::{Fate, Flight, Happening, MAX_AIR};
+use std::alloc::Global;
+
+/// Sends bytes as one frame, where they fit the air.
+#[tactic(auto, using(reload_base::proofs::Frames::size_of_push))]
+fn send_bytes<A: Air>(
+    alloc: Global,
+    air: &mut A,
+    from: u32,
+    to: u32,
+    bytes: &[u8],
+) -> Result<(), StepFault>
+    requires some { 0 < length bytes.now }
+    requires room { size_of (A.view air.old).sent ≤ MAX_AIR }
+    ensures sent { OnOk result (A.view air.new ≡ with_frame (A.view air.old)
+        (record { from = from; to = to; bytes = bytes.now })) }
+    ensures room { OnOk result (size_of (A.view air.new).sent ≤ MAX_AIR) }
+    ensures unsent { IfErr result (IsUnsent (record { from = from; to = to; bytes = bytes.now })
+        (A.view air.old) (A.view air.new)) }
+{
+    let before = air.size();
+    if MAX_AIR - before < bytes.len() as u64 {
+        return Err(StepFault::AirFull(before));
+    }
+    match air.send(alloc, from, to, bytes) {
+        Sent::Ok => Ok(()),
+        Sent::Failed => Err(StepFault::LinkFault),
+        Sent::NoMemory => Err(StepFault::NoMemory),
+    }
+}
+
+/// Sends a frame of the node with a number, as it flies then.
+fn send<A: Air>(
+    alloc: Global,
+    air: &mut A,
+    names: &Names,
+    from: u32,
+    frame: (NodeId, Bytes),
+) -> Result<Flight, StepFault>
+    requires some { HasBytes frame }
+    requires room { size_of (A.view air.old).sent ≤ MAX_AIR }
+    ensures flight { IfOk result (λ f. f ≡ flight_of names.now from frame) }
+    ensures sent { OnOk result (A.view air.new
+        ≡ with_frame (A.view air.old) (air_frame (flight_of names.now from frame))) }
+    ensures room { OnOk result (size_of (A.view air.new).sent ≤ MAX_AIR) }
+    ensures unsent { IfErr result (IsUnsent (air_frame (flight_of names.now from frame))
+        (A.view air.old) (A.view air.new)) }
+{
+    let (to, bytes) = frame;
+    let hearer = names.number_of(to);
+    send_bytes(alloc, air, from, hearer, bytes.as_slice())?;
+    Ok(Flight {
+        sender: from,
+        hearer,
+        bytes,
+        fate: Fate::Waiting,
+    })
+}
+
+/// Sends the frames of the node with a number in their order, as they fly then.
+fn send_all<A: Air>(
+    alloc: Global,
+    air: &mut A,
+    names: &Names,
+    from: u32,
+    frames: List<(NodeId, Bytes)>,
+) -> Result<List<Flight>, StepFault>
+    requires some { All HasBytes frames }
+    requires room { size_of (A.view air.old).sent ≤ MAX_AIR }
+    ensures flights { IfOk result (λ all. all ≡ map (flight_of names.now from) frames) }
+    ensures sent { OnOk result (A.view air.new
+        ≡ with_frames (A.view air.old) (sent_by names.now from frames)) }
+    ensures room { OnOk result (size_of (A.view air.new).sent ≤ MAX_AIR) }
+    ensures stopped { IfErr result (
+        Halts ((A.view air.old).sent ++ sent_by names.now from frames) IsNone
+        (A.view air.old) (A.view air.new)) }
+{
+    let mut sent = List::new(alloc);
+    for frame in frames.into_vec() {
+        let flight = send(alloc, air, names, from, frame)?;
+        sent.push(flight)?;
+    }
+    Ok(sent)
+}
+
+/// What the node with a number tells happens.
+fn tell(number: u32, notices: List<Notice>, happened: &mut List<Happening>) -> Result<(), NoMemory>
+    ensures { OnOk result (happened.new ≡ happened.old ++ map (Tells number) notices) }
+{
+    for notice in notices.into_vec() {
+        happened.push(Happening::Tells { number, notice })?;
+    }
+    Ok(())
+}
+
+/// What the node with a number puts out: its frames are sent and fly, and what it tells happens.
+pub(crate) fn put_out<A: Air>(
+    alloc: Global,
+    air: &mut A,
+    names: &Names,
+    flights: &mut Flights,
+    number: u32,
+    outputs: Outputs,
+    happened: &mut List<Happening>,
+) -> Result<(), StepFault>
+    requires some { All HasBytes outputs.frames }
+    requires room { size_of (A.view air.old).sent ≤ MAX_AIR }
+    ensures flights { OnOk result (flights.new
+        ≡ flights.old ++ map (flight_of names.now number) outputs.frames) }
+    ensures happened { OnOk result (happened.new
+        ≡ happened.old ++ map (Tells number) outputs.notices) }
+    ensures sent { OnOk result (A.view air.new
+        ≡ with_frames (A.view air.old) (sent_by names.now number outputs.frames)) }
+    ensures room { OnOk result (size_of (A.view air.new).sent ≤ MAX_AIR) }
+    ensures stopped { IfErr result (
+        Halts ((A.view air.old).sent ++ sent_by names.now number outputs.frames) IsNone
+        (A.view air.old) (A.view air.new)) }
+{
+    let Outputs { frames, notices } = outputs;
+    let sent = send_all(alloc, air, names, number, frames)?;
+    flights.append(sent)?;
+    tell(number, notices, happened)?;
+    Ok(())
+}
