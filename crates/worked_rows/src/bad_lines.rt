@@ -1,9 +1,9 @@
-use crate::calls::{DECLARATIONS, joined, repeated, run_of};
 use overlay_command::Status;
 use reload_base::{Bytes, NoMemory};
 use std::alloc::Global;
 use std::process::Abort;
 use std::test::Fail;
+use worked_calls::{DECLARATIONS, joined, repeated, run_of};
 
 // A scenario, line by line.
 const LINES: [&str; 7] = [

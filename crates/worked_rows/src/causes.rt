@@ -1,8 +1,8 @@
-use crate::calls::run_of;
 use overlay_command::Status;
 use reload_base::{Bytes, NoMemory};
 use std::alloc::Global;
 use std::test::Fail;
+use worked_calls::run_of;
 
 // Kinds of each model for a user, of few and short values, and one for a user's nodes.
 const KINDS: &str = "overlay abc\n\

@@ -1,9 +1,9 @@
-use crate::calls::{DECLARATIONS, joined, run_of};
 use overlay_command::Status;
 use reload_base::{Bytes, NoMemory};
 use std::alloc::Global;
 use std::process::Abort;
 use std::test::Fail;
+use worked_calls::{DECLARATIONS, joined, run_of};
 
 // That the events write these lines behind the declarations.
 fn assert_run(rt: &(impl Abort + AllocGlobal), events: &[u8], lines: &[u8]) -> Result<(), Fail> {

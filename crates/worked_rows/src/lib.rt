@@ -2,17 +2,9 @@
 #![tactic(auto)]
 
 #[cfg(test)]
-mod asked_words;
-#[cfg(test)]
 mod bad_lines;
 #[cfg(test)]
-mod calls;
-#[cfg(test)]
 mod causes;
-#[cfg(test)]
-mod drawn;
-#[cfg(test)]
-mod draws;
 #[cfg(test)]
 mod fetches;
 #[cfg(test)]
@@ -21,8 +13,6 @@ mod limits;
 mod listings;
 #[cfg(test)]
 mod models;
-#[cfg(test)]
-mod plain;
 #[cfg(test)]
 mod refusals;
 #[cfg(test)]

@@ -1,8 +1,8 @@
-use crate::calls::{joined, repeated, run_of};
 use overlay_command::Status;
 use reload_base::{Bytes, NoMemory};
 use std::alloc::Global;
 use std::test::Fail;
+use worked_calls::{joined, repeated, run_of};
 
 // A peer and its client, kinds of an array and of a dictionary, and an array of 1,024 slots, of
 // which none holds a value.

@@ -1,7 +1,7 @@
-use crate::calls::{ended, repeated, show_of};
 use overlay_command::Status;
 use std::process::Abort;
 use std::test::Fail;
+use worked_calls::{ended, repeated, show_of};
 
 // A payload of sequence 1 with the message `abc`, which is too short for a header, and its ack.
 const ABC_AND_ACK: [u8; 20] = [

@@ -1,7 +1,7 @@
-use crate::calls::{DECLARATIONS, joined, run_of};
 use overlay_command::Status;
 use std::process::Abort;
 use std::test::Fail;
+use worked_calls::{DECLARATIONS, joined, run_of};
 
 // That the further declaration and the events write these lines behind the declarations.
 fn assert_run(

@@ -1,6 +1,6 @@
-use crate::calls::{ACTS_ONCE, DECLARATIONS, THREE_DELIVERIES, ended, joined, repeated, run_of};
 use overlay_command::Status;
 use std::test::Fail;
+use worked_calls::{ACTS_ONCE, DECLARATIONS, THREE_DELIVERIES, ended, joined, repeated, run_of};
 
 // The most bytes of a scenario.
 const MOST_BYTES: usize = 16_777_216;

@@ -1,6 +1,6 @@
-use crate::calls::{ACTS_ONCE, DECLARATIONS, THREE_DELIVERIES, joined, run_of};
 use overlay_command::Status;
 use std::test::Fail;
+use worked_calls::{ACTS_ONCE, DECLARATIONS, THREE_DELIVERIES, joined, run_of};
 
 // Two Stores of one time: the second is too old.
 const TWO_OF_ONE_TIME: &str = "store 2 1 @abc kind=256/0 -:5000:60:+6869\n\

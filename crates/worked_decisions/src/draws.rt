@@ -1,7 +1,6 @@
 //! Scenarios that are drawn line by line, whose decisions are those of the plain program.
 
 use crate::asked_words::{put_asked_fetch, put_asked_store, put_place};
-use crate::calls::run_of;
 use crate::drawn::{
     DECLARED, Fetch, Group, KINDS, Keys, Model, Policy, Request, Specifier, Store, Value,
     number_of, put_key, put_specifier, resource_word,
@@ -11,6 +10,7 @@ use overlay_command::Status;
 use reload_base::{Bytes, NoMemory};
 use std::alloc::Global;
 use std::test::Fail;
+use worked_calls::run_of;
 
 // A request that was issued, and whether it was heard.
 #[derive(Drop)]

@@ -1,4 +1,5 @@
-//! A call over memory, and texts for it.
+//! Calls over memory, and texts for them: for tests.
+#![tactic(auto)]
 
 use overlay_command::{Status, overlay};
 use reload_base::{Bytes, MemorySink, MemorySource, NoMemory};
