@@ -164,8 +164,8 @@ fn is_an_id(node: NodeId)
     let _id = node.0;
 }
 
-/// What becomes of a request of `size` bytes that a peer hears from a node (RFC 6940, sections 6.1.1
-/// and 6.1.2).
+/// What becomes of a request of `size` bytes that a peer hears from a node (RFC 6940, sections
+/// 6.1.1 and 6.1.2).
 pub fn course(
     alloc: Global,
     from: NodeId,

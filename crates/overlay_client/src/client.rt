@@ -142,7 +142,8 @@ impl Client {
         requires time { now < 2 ^ 62 }
         requires light { model.load self.old < MAX_LOAD }
         ensures ok { let words = words_of G.certificate_of G.signature_of G.about_of G.verifies
-            signer.now in OnOk result (self.new ≡ (model.commanded words now command self.old).node) }
+            signer.now in OnOk result (self.new
+            ≡ (model.commanded words now command self.old).node) }
         ensures outputs { let words = words_of G.certificate_of G.signature_of G.about_of G.verifies
             signer.now in IfOk result (λ outputs. outputs
             ≡ (model.commanded words now command self.old).outputs) }

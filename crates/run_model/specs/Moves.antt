@@ -37,7 +37,8 @@ is_hearing (Some (APeer p)) = elim (state_of p.membership) [ states.Gone ↦ fal
 -- the frame at a place is lost, unless it was delivered
 unfoldable pub lost_at : ℕ → World → World
 lost_at at w =
-    option_map_or (λ f. if is_waiting f then with_fate Lost at f w else w) (slice_get w.flights at) w
+    option_map_or (λ f. if is_waiting f then with_fate Lost at f w else w)
+    (slice_get w.flights at) w
 
 -- the frame at a place is heard by its node, or lost where no node hears it
 unfoldable pub flown : SignerWords → ℕ → Flight → World → Done

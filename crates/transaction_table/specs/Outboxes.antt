@@ -18,7 +18,14 @@ message_of x = record { id = x.id; bytes = x.message }
 
 -- the transaction of a message that was sent
 abbrev pub outstanding_of : NodeId → Message → ℕ → ℕ → Txn Outstanding
-outstanding_of peer m sends due = record { state = record {}; peer = peer; id = m.id; message = m.bytes; sends = sends; due = due }
+outstanding_of peer m sends due = record {
+  state = record {};
+  peer = peer;
+  id = m.id;
+  message = m.bytes;
+  sends = sends;
+  due = due;
+}
 
 -- an outbox whose head is sent now
 abbrev pub opened : ℕ → Message → List Message → Outbox

@@ -24,7 +24,14 @@ is_over (Some limit) sends = nat_le limit sends
 
 -- a transaction that is sent for the first time
 abbrev pub sent : ℕ → Txn Queued → Txn Outstanding
-sent now t = record { state = record {}; peer = t.peer; id = t.id; message = t.message; sends = 1; due = due_after now }
+sent now t = record {
+  state = record {};
+  peer = t.peer;
+  id = t.id;
+  message = t.message;
+  sends = 1;
+  due = due_after now;
+}
 
 -- a transaction that is sent again
 abbrev pub sent_again : ℕ → Txn Outstanding → Txn Outstanding
@@ -32,12 +39,27 @@ sent_again now t = record t { sends = one_more t.sends; due = due_after now }
 
 -- a transaction whose answer was taken
 abbrev pub answered : Txn Outstanding → Txn Answered
-answered t = record { state = record {}; peer = t.peer; id = t.id; message = t.message; sends = t.sends; due = t.due }
+answered t = record {
+  state = record {};
+  peer = t.peer;
+  id = t.id;
+  message = t.message;
+  sends = t.sends;
+  due = t.due;
+}
 
 -- a transaction that isn't sent any more
 abbrev pub timed_out : Txn Outstanding → Txn TimedOut
-timed_out t = record { state = record {}; peer = t.peer; id = t.id; message = t.message; sends = t.sends; due = t.due }
+timed_out t = record {
+  state = record {};
+  peer = t.peer;
+  id = t.id;
+  message = t.message;
+  sends = t.sends;
+  due = t.due;
+}
 
 -- a transaction whose time to be sent again has come
 abbrev pub resent : ℕ → Option ℕ → Txn Outstanding → Again
-resent now limit t = cond (is_over limit t.sends) (again.Over (timed_out t)) (again.Sent (sent_again now t))
+resent now limit t =
+    cond (is_over limit t.sends) (again.Over (timed_out t)) (again.Sent (sent_again now t))

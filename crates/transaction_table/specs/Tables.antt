@@ -56,7 +56,9 @@ pub record AreApart (t : Txns) : Type 0 where
 
 -- no transaction has the id
 abbrev pub IsNew : ℕ → Txns → Type 0
-IsNew id t = ((peer : ℕ) (o : Outbox) → get t.outboxes peer ≡ Some o → HasNot id o) × (get t.issued id ≡ None)
+IsNew id t =
+    ((peer : ℕ) (o : Outbox) → get t.outboxes peer ≡ Some o → HasNot id o)
+    × (get t.issued id ≡ None)
 
 -- a transaction is queued: it is sent at once where the outbox is empty, and waits otherwise
 abbrev pub queued : ℕ → Txn Queued → Txns → Txns
@@ -69,7 +71,14 @@ queued now x t = record t {
 
 -- a transaction is sent at once, outside the outboxes
 abbrev pub issued : ℕ → Txn Queued → Txns → Txns
-issued now x t = record t { issued = insert t.issued x.id (record { peer = x.peer; message = message_of x; sends = 1; due = due_after now }) }
+issued now x t = record t {
+  issued = insert t.issued x.id (record {
+    peer = x.peer;
+    message = message_of x;
+    sends = 1;
+    due = due_after now;
+  });
+}
 
 -- the head of an outbox as a transaction
 abbrev pub head_txn : ℕ → Outbox → Txn Outstanding
@@ -101,7 +110,9 @@ either_spot None other = other
 
 -- where the outstanding transaction with a peer and an id stands
 abbrev pub spot_of : ℕ → ℕ → Txns → Option Spot
-spot_of peer id t = either_spot (head_spot peer id (get t.outboxes peer)) (request_spot peer id (get t.issued id))
+spot_of peer id t =
+    either_spot (head_spot peer id (get t.outboxes peer))
+    (request_spot peer id (get t.issued id))
 
 -- the outstanding transaction with a peer and an id
 abbrev pub outstanding : ℕ → ℕ → Txns → Option (Txn Outstanding)
@@ -114,8 +125,10 @@ ended now (Issued id) t = record t { issued = remove t.issued id }
 
 -- the transaction at a spot is sent again
 abbrev pub repeated : ℕ → Spot → Txns → Txns
-repeated now (Head peer) t = record t { outboxes = changed (again_outbox now) peer t.outboxes (get t.outboxes peer) }
-repeated now (Issued id) t = record t { issued = changed (again_request now) id t.issued (get t.issued id) }
+repeated now (Head peer) t =
+    record t { outboxes = changed (again_outbox now) peer t.outboxes (get t.outboxes peer) }
+repeated now (Issued id) t =
+    record t { issued = changed (again_request now) id t.issued (get t.issued id) }
 
 -- what an answer takes
 abbrev pub taken_of : Option (Txn Outstanding) → Taken
@@ -136,7 +149,8 @@ head_timers es = map (λ e. record { due = e.1.due; id = e.1.head.id; spot = Hea
 
 -- when the requests outside the outboxes are due
 abbrev pub request_timers : List (ℕ × Request) → List Timer
-request_timers es = map (λ e. record { due = e.1.due; id = e.1.message.id; spot = Issued e.1.message.id }) es
+request_timers es =
+    map (λ e. record { due = e.1.due; id = e.1.message.id; spot = Issued e.1.message.id }) es
 
 -- when the outstanding transactions are due
 abbrev pub timers : Txns → List Timer
@@ -158,7 +172,10 @@ first_from best (x ∷ xs) = first_from (earlier best x) xs
 
 -- where the first transaction stands that is due
 abbrev pub due_spot : ℕ → Txns → Option Spot
-due_spot now t = elim (first_from None (timers t)) [ None ↦ None | Some x ↦ cond (nat_le x.due now) (Some x.spot) None ]
+due_spot now t = elim (first_from None (timers t)) [
+  | None ↦ None
+  | Some x ↦ cond (nat_le x.due now) (Some x.spot) None
+]
 
 -- what a tick does to a transaction that is due, and what it leaves
 abbrev pub ticked_at : ℕ → Option ℕ → Txns → Spot → Option (Txn Outstanding) → Ticked × Txns
@@ -168,4 +185,7 @@ ticked_at now limit t s (Some x) = cond (is_over limit x.sends)
 
 -- what a tick does, and what it leaves
 abbrev pub ticked : ℕ → Option ℕ → Txns → Ticked × Txns
-ticked now limit t = elim (due_spot now t) [ None ↦ (tick.Idle, t) | Some s ↦ ticked_at now limit t s (txn_at s t) ]
+ticked now limit t = elim (due_spot now t) [
+  | None ↦ (tick.Idle, t)
+  | Some s ↦ ticked_at now limit t s (txn_at s t)
+]
