@@ -5,11 +5,13 @@ ghost use Rattle.std.specs.Option.{option_copied};
 ghost use Rattle.run_model.specs.declared.flight.Flight.{Flight};
 ghost use Rattle.run_model.specs.declared.flight.Fate.TheVariants.{Waiting, Delivered, Lost};
 ghost use Rattle.run_model.specs.Moves.{is_waiting};
+ghost use Rattle.frames_in_flight.specs.Kept.{HoldBytes};
 
 use reload_base::{List, NoMemory};
 use run_model::{Fate, Flight};
 use std::alloc::Global;
 use std::marker::Model;
+use wire_core::Cursor;
 
 /// The frames ever sent, each with its fate. Contracts see them in order, the first sent in front.
 #[derive(Debug, Drop)]
@@ -21,12 +23,10 @@ pub struct Flights {
 
 impl Model for Flights {
     ghost use Rattle.std.specs.Prelude as words;
-    ghost use Rattle.std.specs.Prelude.{◌≤◌};
-    ghost use Rattle.std.specs.List.{position_or_len};
     ghost use Rattle.std.specs.Coded.{coded_list};
     ghost use Rattle.run_model.specs.declared.flight.Flight as model;
     ghost use Rattle.run_model.specs.contracts.flight.Flight as of_flight;
-    ghost use Rattle.run_model.specs.Moves.{is_waiting};
+    ghost use Rattle.frames_in_flight.specs.Kept.{IsKept};
 
     ghost Value = { words.List model.Flight };
 
@@ -34,7 +34,7 @@ impl Model for Flights {
 
     ghost view = { λ f. f.frames.items };
 
-    ghost invariant = { λ f. f.settled ≤ position_or_len is_waiting f.frames.items };
+    ghost invariant = { λ f. IsKept f.frames.items f.settled };
 }
 
 impl Flights {
@@ -62,13 +62,21 @@ impl Flights {
         self.frames.as_slice().get(at)
     }
 
+    /// Does nothing, and tells contracts that what each frame holds are bytes.
+    pub fn hold_bytes(&self)
+        ensures { HoldBytes self.now }
+    {
+        let _frames = &self.frames;
+    }
+
     /// Adds frames behind those that were sent before, in the time that those added take. After
     /// `NoMemory` all are as before.
-    #[tactic(auto, using(crate::proofs::Fronts::front_added))]
+    #[tactic(auto, using(crate::proofs::Bytes::kept_added))]
     pub fn append(&mut self, flights: List<Flight>) -> Result<(), NoMemory>
         ensures ok { OnOk result (self.new ≡ self.old ++ flights) }
         ensures err { OnErr result (self.new ≡ self.old) }
     {
+        hold_bytes(flights.as_slice());
         let before = self.frames.len();
         let added = add(&mut self.frames, flights);
         if added.is_err() {
@@ -126,6 +134,16 @@ impl Flights {
             → self.new ≡ slice_set self.old at (record f { fate = fate }) }
     {
         self.frames[at].fate = fate;
+    }
+}
+
+/// Does nothing, and tells contracts that what each frame holds are bytes.
+#[tactic(auto, using(crate::proofs::Bytes::one_holds))]
+fn hold_bytes(flights: &[Flight])
+    ensures { HoldBytes flights.now }
+{
+    for flight in flights {
+        Cursor::new(flight.bytes.as_slice(), 0).are_bytes();
     }
 }
 

@@ -1,9 +1,8 @@
 -- The lines of frames, as far as they were appended.
-use Rattle.std.proofs.Common.{◌≡◌, ℕ, zero, suc, ◌+◌, ◌≤◌, List, [], ◌∷◌, ◌++◌, length, take, drop, Option, Some, None, Result, Ok, Err, refl, sym, ap, ◌∙◌, add-one, append_assoc, append-nil}
+use Rattle.std.proofs.Common.{◌≡◌, ℕ, zero, suc, ◌+◌, ◌≤◌, List, [], ◌∷◌, ◌++◌, length, take, drop, Err, refl, sym, ap, ◌∙◌, add-one, append_assoc, append-nil}
 use Rattle.std.specs.Prelude.{slice_get}
 use Rattle.std.specs.Option.{option_map_or}
 use Rattle.std.proofs.lemmas.List.{drop_all}
-use Rattle.text_words.specs.Codec.{AppendedSome}
 use Rattle.text_words.specs.Lines.{ended}
 use Rattle.text_words.proofs.PutLaws.{appended_then}
 use Rattle.run_model.specs.declared.flight.Flight.{Flight}

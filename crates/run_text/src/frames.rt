@@ -59,8 +59,8 @@ fn put_all_frames(out: &mut Bytes, flights: &Flights, from: usize) -> Result<(),
     Ok(())
 }
 
-/// Appends `frame K FROM TO HEX` for each of the frames behind the first `from`. K counts all frames
-/// from 1, FROM and TO are the numbers of the nodes, and HEX is the frame.
+/// Appends `frame K FROM TO HEX` for each of the frames behind the first `from`. K counts all
+/// frames from 1, FROM and TO are the numbers of the nodes, and HEX is the frame.
 pub fn put_frames(out: &mut Bytes, flights: &Flights, from: usize) -> Result<(), NoMemory>
     ensures { Appended out.old out.new (frames_text from flights.now) result }
 {

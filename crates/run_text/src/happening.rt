@@ -150,9 +150,9 @@ fn put_all(out: &mut Bytes, names: &[DeclaredNode], all: &[Happening]) -> Result
     Ok(())
 }
 
-/// Appends a line for each that happens: `decide P T RES REQUEST -> ANSWER`, `answer H.L ANSWER`, and
-/// `refused L WORD`, where WORD is `no-such-frame`, `unknown-node` or `busy`. Nodes have the numbers
-/// of their names; one without a name is `?`.
+/// Appends a line for each that happens: `decide P T RES REQUEST -> ANSWER`, `answer H.L ANSWER`,
+/// and `refused L WORD`, where WORD is `no-such-frame`, `unknown-node` or `busy`. Nodes have the
+/// numbers of their names; one without a name is `?`.
 pub fn put_happenings(
     out: &mut Bytes,
     names: &[DeclaredNode],

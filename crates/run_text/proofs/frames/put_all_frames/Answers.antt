@@ -1,5 +1,5 @@
 use Rattle.std.proofs.Common.{arith}
-use Rattle.run_text.proofs.FrameLines.{AreBegun-start, AreBegun-more, AreBegun-stop, AreBegun-end}
+use Rattle.run_text.proofs.FrameLines.{AreBegun-start, AreBegun-more, AreBegun-end}
 use Rattle.run_text.proofs.frames.put_all_frames.Goals as goal
 
 pub frames-init : goal.frames-init
