@@ -51,6 +51,10 @@ with_kind now kinds f s =
     let g = gathered now kinds f.size s in
     let generation = (kind_in kinds s.kind).generation in
     record {
-      kinds = f.kinds ++ (record { kind = s.kind; generation = generation; values = Known g.values }) ∷ [];
+      kinds = f.kinds ++ (record {
+        kind = s.kind;
+        generation = generation;
+        values = Known g.values;
+      }) ∷ [];
       size = g.size;
     }

@@ -1,23 +1,27 @@
 //! A decision on a Store, with the record that the resource has (RFC 6940, section 7.4.1).
 
-ghost use Rattle.std.specs.Prelude.{◌≡◌, ◌<◌, ◌^◌, ℕ, true, Some, None, IsSome, unwrap_or, if◌then◌else◌, IfOk, OnOk, OnErr};
+ghost use Rattle.std.specs.Prelude.{◌≡◌, ◌<◌, ◌^◌, ℕ, true, Some, None, IsSome, IfSome, unwrap_or, if◌then◌else◌, IfOk, OnOk, OnErr};
+ghost use Rattle.std.specs.Option.{option_map};
 ghost use Rattle.reload_base.specs.Lists.{pushed_within};
 ghost use Rattle.storage_model.specs.declared.limits.TheConstants.{MAX_KEPT};
 ghost use Rattle.storage_model.specs.Records.{kind_in};
 ghost use Rattle.storage_model.specs.Refusals.{first_cause};
 ghost use Rattle.storage_model.specs.Requests.{is_sound};
 ghost use Rattle.storage_model.specs.Puts.{kinds_after};
+ghost use Rattle.record_state.specs.Rings.{taken_back};
 ghost use Rattle.storage_model.specs.Verdict as verdict;
 ghost use Rattle.storage_model.specs.Verdict.{outcome_of};
 ghost use Rattle.kind_store.specs.Steps as steps;
 ghost use Rattle.kind_store.specs.Steps.{IsCounted};
+ghost use Rattle.kind_store.specs.Undoing.{IsRecordUndo};
 
 use crate::causes::{early_cause, sequence_cause};
 use crate::limits;
 use crate::record::Record;
+use crate::undo::RecordUndo;
 use data_models::Config;
 use record_state::{
-    Draft, KeptAnswers, Kinds, any_puts, counters_in, counters_told, put_kinds, sweep,
+    Draft, KeptAnswers, Kinds, KindsUndo, any_puts, counters_in, counters_told, put_kinds, sweep,
 };
 use reload_base::{List, NoMemory, TryCopy};
 use reload_ids::{NodeId, ResourceId};
@@ -25,7 +29,8 @@ use std::alloc::Global;
 use storage_model::{Kept, Refusal, StoreAsked, StoreVerdict};
 
 impl Record {
-    /// Decides on a Store, at a clock in milliseconds. After `NoMemory` the record is as before.
+    /// Decides on a Store, at a clock in milliseconds, and says what takes that back. After
+    /// `NoMemory` the record is as before.
     #[tactic(auto, unfolding(storage_model::specs::Verdict::outcome_of, storage_model::specs::Verdict::repeated))]
     pub(crate) fn decide(
         &mut self,
@@ -36,20 +41,22 @@ impl Record {
         origin: NodeId,
         id: u64,
         request: &StoreAsked,
-    ) -> Result<StoreVerdict, NoMemory>
+    ) -> Result<(StoreVerdict, RecordUndo), NoMemory>
         requires clock { now < 2 ^ 62 }
         requires counted { IsCounted self.old }
         requires sound { is_sound config.now request.now ≡ true }
-        ensures verdict { IfOk result (λ v.
-            v ≡ (outcome_of config.now now resource.0 self.old origin id request.now).verdict) }
+        ensures verdict { IfOk result (λ d.
+            d.0 ≡ (outcome_of config.now now resource.0 self.old origin id request.now).verdict) }
         ensures next { OnOk result (
             self.new ≡ unwrap_or
             (outcome_of config.now now resource.0 self.old origin id request.now).next
             self.old) }
+        ensures undo { IfOk result (λ d. IsRecordUndo d.1 self.new self.old) }
         ensures err { OnErr result (self.new ≡ self.old) }
     {
         if let Some(kept) = self.kept.answer_to(origin.0, id) {
-            return repeated(alloc, kept);
+            let verdict = repeated(alloc, kept)?;
+            return Ok((verdict, self.unchanged()));
         }
         self.decide_anew(alloc, config, now, resource, origin, id, request)
     }
@@ -64,18 +71,19 @@ impl Record {
         origin: NodeId,
         id: u64,
         request: &StoreAsked,
-    ) -> Result<StoreVerdict, NoMemory>
+    ) -> Result<(StoreVerdict, RecordUndo), NoMemory>
         requires clock { now < 2 ^ 62 }
         requires counted { IsCounted self.old }
         requires sound { is_sound config.now request.now ≡ true }
-        ensures verdict { IfOk result (λ v.
-            v ≡ (verdict.decided (first_cause
+        ensures verdict { IfOk result (λ d.
+            d.0 ≡ (verdict.decided (first_cause
             (verdict.store_causes config.now now resource.0 self.old.kinds request.now)) now
             self.old origin id request.now).verdict) }
         ensures next { OnOk result (
             self.new ≡ unwrap_or (verdict.decided (first_cause
             (verdict.store_causes config.now now resource.0 self.old.kinds request.now)) now
             self.old origin id request.now).next self.old) }
+        ensures undo { IfOk result (λ d. IsRecordUndo d.1 self.new self.old) }
         ensures err { OnErr result (self.new ≡ self.old) }
     {
         match cause_before(config, resource, &self.kinds, request) {
@@ -94,22 +102,23 @@ impl Record {
         origin: NodeId,
         id: u64,
         request: &StoreAsked,
-    ) -> Result<StoreVerdict, NoMemory>
+    ) -> Result<(StoreVerdict, RecordUndo), NoMemory>
         requires clock { now < 2 ^ 62 }
         requires counted { IsCounted self.old }
         requires sound { is_sound config.now request.now ≡ true }
-        ensures verdict { IfOk result (λ v.
-            v ≡ (verdict.decided (steps.cause_of None (steps.is_large config.now
+        ensures verdict { IfOk result (λ d.
+            d.0 ≡ (verdict.decided (steps.cause_of None (steps.is_large config.now
             (kinds_after now self.old.kinds request.now.kinds) request.now)) now self.old
             origin id request.now).verdict) }
         ensures next { OnOk result (
             self.new ≡ unwrap_or (verdict.decided (steps.cause_of None (steps.is_large config.now
             (kinds_after now self.old.kinds request.now.kinds) request.now)) now self.old
             origin id request.now).next self.old) }
+        ensures undo { IfOk result (λ d. IsRecordUndo d.1 self.new self.old) }
         ensures err { OnErr result (self.new ≡ self.old) }
     {
         match self.accept(alloc, config, now, origin, id, request)? {
-            Some(verdict) => Ok(verdict),
+            Some(decided) => Ok(decided),
             None => self.refuse(alloc, Refusal::DataTooLarge, origin, id, request),
         }
     }
@@ -123,25 +132,29 @@ impl Record {
         origin: NodeId,
         id: u64,
         request: &StoreAsked,
-    ) -> Result<StoreVerdict, NoMemory>
+    ) -> Result<(StoreVerdict, RecordUndo), NoMemory>
         requires { self.old.turn < 2 ^ 63 }
-        ensures verdict { IfOk result (λ v. v ≡
+        ensures verdict { IfOk result (λ d. d.0 ≡
             (verdict.refused cause self.old origin id request.now).verdict) }
         ensures next { OnOk result (
             self.new ≡ unwrap_or
             (verdict.refused cause self.old origin id request.now).next self.old) }
+        ensures undo { IfOk result (λ d. IsRecordUndo d.1 self.new self.old) }
         ensures err { OnErr result (self.new ≡ self.old) }
     {
         let counters = counters_told(alloc, cause, &self.kinds, request.kinds.as_slice())?;
-        if !is_traceless(cause) {
-            self.note(alloc, origin, id, cause.code(), &counters)?;
-        }
-        Ok(StoreVerdict {
+        let undo = if is_traceless(cause) {
+            self.unchanged()
+        } else {
+            self.note(alloc, origin, id, cause.code(), &counters)?
+        };
+        let verdict = StoreVerdict {
             code: cause.code(),
             counters,
             repeat: false,
             acted: false,
-        })
+        };
+        Ok((verdict, undo))
     }
 
     /// Keeps an answer, and raises the turn. After `NoMemory` the record is as before.
@@ -153,16 +166,26 @@ impl Record {
         id: u64,
         code: u16,
         counters: &List<(u32, u64)>,
-    ) -> Result<(), NoMemory>
+    ) -> Result<RecordUndo, NoMemory>
         requires { self.old.turn < 2 ^ 63 }
         ensures ok { OnOk result (
             self.new ≡ verdict.noted
             (steps.answer origin id code counters.now) self.old.kinds self.old) }
+        ensures undo { IfOk result (λ undo. IsRecordUndo undo self.new self.old) }
         ensures err { OnErr result (self.new ≡ self.old) }
     {
-        keep(&mut self.kept, alloc, origin, id, code, counters)?;
+        let oldest = keep(&mut self.kept, alloc, origin, id, code, counters)?;
         self.turn += 1;
-        Ok(())
+        let kinds = KindsUndo::nothing(alloc);
+        Ok(RecordUndo::Noted { kinds, oldest })
+    }
+
+    /// What takes nothing back.
+    fn unchanged(&self) -> RecordUndo
+        ensures { IsRecordUndo result self.now self.now }
+    {
+        let _ = &self.turn;
+        RecordUndo::Nothing
     }
 
     /// Accepts a Store. `None` where its kinds would pass a limit: then, and after `NoMemory`, the
@@ -175,18 +198,19 @@ impl Record {
         origin: NodeId,
         id: u64,
         request: &StoreAsked,
-    ) -> Result<Option<StoreVerdict>, NoMemory>
+    ) -> Result<Option<(StoreVerdict, RecordUndo)>, NoMemory>
         requires clock { now < 2 ^ 62 }
         requires counted { IsCounted self.old }
         requires sound { is_sound config.now request.now ≡ true }
         ensures verdict { IfOk result (λ r.
-            r ≡ steps.settled config.now
+            option_map (λ d. d.0) r ≡ steps.settled config.now
             (kinds_after now self.old.kinds request.now.kinds) request.now) }
         ensures some { IfOk result (λ r. IsSome r → self.new ≡ verdict.noted
             (steps.accepted_answer
             (kinds_after now self.old.kinds request.now.kinds) origin id request.now)
             (kinds_after now self.old.kinds request.now.kinds) self.old) }
         ensures none { IfOk result (λ r. r ≡ None → self.new ≡ self.old) }
+        ensures undo { IfOk result (λ r. IfSome r (λ d. IsRecordUndo d.1 self.new self.old)) }
         ensures err { OnErr result (self.new ≡ self.old) }
     {
         let kinds = std::mem::replace(&mut self.kinds, Kinds::new(alloc));
@@ -201,10 +225,12 @@ impl Record {
             id,
             request,
         ) {
-            Ok(Some(verdict)) => {
-                self.kinds = draft.commit();
+            Ok(Some(settled)) => {
+                let (verdict, oldest) = settled;
+                let (after, kinds) = draft.commit();
+                self.kinds = after;
                 self.turn += 1;
-                Ok(Some(verdict))
+                Ok(Some((verdict, RecordUndo::Noted { kinds, oldest })))
             }
             Ok(None) => {
                 self.kinds = draft.rollback();
@@ -231,7 +257,7 @@ fn changed(
     origin: NodeId,
     id: u64,
     request: &StoreAsked,
-) -> Result<Option<StoreVerdict>, NoMemory>
+) -> Result<Option<(StoreVerdict, Option<Kept>)>, NoMemory>
     requires clock { now < 2 ^ 62 }
     requires counted { (kind : ℕ) → (kind_in draft.old.kinds kind).generation < 2 ^ 63 }
     requires sound { is_sound config.now request.now ≡ true }
@@ -239,10 +265,11 @@ fn changed(
     ensures kinds { OnOk result (draft.new.kinds
         ≡ kinds_after now draft.old.kinds request.now.kinds) }
     ensures verdict { IfOk result (λ r.
-        r ≡ steps.settled config.now
+        option_map (λ d. d.0) r ≡ steps.settled config.now
         (kinds_after now draft.old.kinds request.now.kinds) request.now) }
     ensures kept { OnOk result (kept.new ≡ steps.settled_kept config.now
         (kinds_after now draft.old.kinds request.now.kinds) origin id request.now kept.old) }
+    ensures oldest { IfOk result (λ r. IfSome r (λ d. taken_back d.1 kept.new ≡ kept.old)) }
     ensures err { OnErr result (kept.new ≡ kept.old) }
 {
     sweep(draft, alloc, now)?;
@@ -262,10 +289,12 @@ fn settled(
     origin: NodeId,
     id: u64,
     request: &StoreAsked,
-) -> Result<Option<StoreVerdict>, NoMemory>
-    ensures verdict { IfOk result (λ r. r ≡ steps.settled config.now after.now request.now) }
+) -> Result<Option<(StoreVerdict, Option<Kept>)>, NoMemory>
+    ensures verdict { IfOk result (λ r.
+        option_map (λ d. d.0) r ≡ steps.settled config.now after.now request.now) }
     ensures kept { OnOk result (kept.new
         ≡ steps.settled_kept config.now after.now origin id request.now kept.old) }
+    ensures oldest { IfOk result (λ r. IfSome r (λ d. taken_back d.1 kept.new ≡ kept.old)) }
     ensures err { OnErr result (kept.new ≡ kept.old) }
 {
     if limits::is_large(config, after, request) {
@@ -273,13 +302,14 @@ fn settled(
     }
     let asked = request.kinds.as_slice();
     let counters = counters_in(alloc, after, asked)?;
-    keep(kept, alloc, origin, id, 0, &counters)?;
-    Ok(Some(StoreVerdict {
+    let oldest = keep(kept, alloc, origin, id, 0, &counters)?;
+    let verdict = StoreVerdict {
         code: 0,
         counters,
         repeat: false,
         acted: any_puts(asked),
-    }))
+    };
+    Ok(Some((verdict, oldest)))
 }
 
 /// The first cause to refuse a Store but the limits of its kinds.
@@ -307,7 +337,8 @@ fn is_traceless(cause: Refusal) -> bool
     }
 }
 
-/// Keeps an answer in place of the oldest of [`MAX_KEPT`]. After `NoMemory` all are as before.
+/// Keeps an answer in place of the oldest of [`MAX_KEPT`], which is handed back. After `NoMemory`
+/// all are as before.
 fn keep(
     kept: &mut KeptAnswers,
     alloc: Global,
@@ -315,9 +346,10 @@ fn keep(
     id: u64,
     code: u16,
     counters: &List<(u32, u64)>,
-) -> Result<(), NoMemory>
+) -> Result<Option<Kept>, NoMemory>
     ensures ok { OnOk result (kept.new ≡ pushed_within MAX_KEPT kept.old
         (steps.answer origin id code counters.now)) }
+    ensures oldest { IfOk result (λ oldest. taken_back oldest kept.new ≡ kept.old) }
     ensures err { OnErr result (kept.new ≡ kept.old) }
 {
     let answer = Kept {

@@ -11,6 +11,7 @@ mod limits;
 mod record;
 mod shelf;
 mod soundness;
+mod undo;
 
 pub use record::Record;
 pub use shelf::Shelf;
@@ -19,3 +20,4 @@ pub use storage_model::{
     Asked, AskedKind, AskedValues, FetchAsked, FetchVerdict, Held, JoinAsked, Kept, KindRecord,
     Refusal, Slot, StoreAsked, StoreVerdict, Value,
 };
+pub use undo::Undo;

@@ -6,7 +6,9 @@ ghost use Rattle.storage_model.specs.Records.{empty_record, weight};
 ghost use Rattle.storage_model.specs.Decisions.{with_joined};
 ghost use Rattle.std.specs.FinMap.{insert};
 ghost use Rattle.record_state.specs.Written.{Follows, kind_written, kind_records};
+ghost use Rattle.kind_store.specs.Undoing.{record_undone, IsRecordUndo};
 
+use crate::undo::RecordUndo;
 use record_state::{KeptAnswers, Kinds};
 use reload_base::{List, NoMemory, TryCopy};
 use std::alloc::Global;
@@ -87,7 +89,8 @@ impl Record {
             ≡ record self.old { kept = self.old.kept ++ answer ∷ [] }) }
         ensures err { OnErr result (self.new ≡ self.old) }
     {
-        self.kept.push(answer)
+        self.kept.push(answer)?;
+        Ok(())
     }
 
     /// The answers that are kept, the oldest first.
@@ -128,19 +131,41 @@ impl Record {
         self.kinds.weight() as u64
     }
 
-    /// Notes that a peer joined: true the first time, when the turn rises.
+    /// Notes that a peer joined: true the first time, when the turn rises. It says what takes that
+    /// back.
     #[tactic(auto, unfolding(storage_model::specs::Decisions::with_joined))]
-    pub(crate) fn set_joined(&mut self) -> bool
+    pub(crate) fn set_joined(&mut self) -> (bool, RecordUndo)
         requires { self.old.turn < 2 ^ 63 }
-        ensures first { result ≡ is_some (with_joined self.old) }
+        ensures first { result.0 ≡ is_some (with_joined self.old) }
         ensures record { self.new ≡ unwrap_or (with_joined self.old) self.old }
+        ensures undo { IsRecordUndo result.1 self.new self.old }
     {
         if self.joined {
-            return false;
+            return (false, RecordUndo::Nothing);
         }
         self.joined = true;
         self.turn += 1;
-        true
+        (true, RecordUndo::Joined)
+    }
+
+    /// Takes its last change back. No memory is taken.
+    #[tactic(auto, unfolding(crate::specs::Undoing::record_undone))]
+    pub(crate) fn undo(&mut self, undo: RecordUndo)
+        requires { weight (record_undone undo self.old).kinds ≤ MAX_WEIGHT }
+        ensures { self.new ≡ record_undone undo self.old }
+    {
+        match undo {
+            RecordUndo::Nothing => {}
+            RecordUndo::Noted { kinds, oldest } => {
+                self.kinds.undo_all(self.alloc, kinds);
+                self.kept.take_back(oldest);
+                self.turn = self.turn.saturating_sub(1);
+            }
+            RecordUndo::Joined => {
+                self.joined = false;
+                self.turn = self.turn.saturating_sub(1);
+            }
+        }
     }
 }
 

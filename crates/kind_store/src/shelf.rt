@@ -1,19 +1,22 @@
 //! The records of one peer, by resource.
 
-ghost use Rattle.std.specs.Prelude.{◌≡◌, ◌≤◌, ◌<◌, ◌^◌, true, Some, None, is_some, IsSome, nat_lt, if◌then◌else◌, IfOk, OnOk, OnErr};
+ghost use Rattle.std.specs.Prelude.{◌≡◌, ◌≤◌, ◌<◌, ◌^◌, true, Some, None, is_some, IsSome, IfSome, nat_lt, if◌then◌else◌, IfOk, OnOk, OnErr};
 ghost use Rattle.std.specs.Option.{option_copied, option_map_or};
 ghost use Rattle.std.specs.FinMap as map;
 ghost use Rattle.storage_model.specs.declared.limits.TheConstants.{MAX_WEIGHT};
-ghost use Rattle.storage_model.specs.Records.{record_in, weight};
+ghost use Rattle.storage_model.specs.Records.{Map, record_in, weight};
 ghost use Rattle.storage_model.specs.Requests.{is_sound};
 ghost use Rattle.storage_model.specs.Verdict.{outcome_of};
 ghost use Rattle.storage_model.specs.Fetches.{fetch_verdict};
 ghost use Rattle.storage_model.specs.Decisions.{changed, with_joined};
 ghost use Rattle.kind_store.specs.Steps.{IsCounted};
 ghost use Rattle.kind_store.specs.Written.{written};
+ghost use Rattle.kind_store.specs.Undoing.{there_at, added_at, record_undone, change_undone, IsUndo};
+ghost use Rattle.kind_store.specs.declared.undo.Change.TheVariants as changes;
 
 use crate::fetch::fetch_from;
 use crate::record::Record;
+use crate::undo::{Change, RecordUndo, Undo};
 use data_models::Config;
 use ordered_tables::NumberTable;
 use record_state::Kinds;
@@ -42,6 +45,26 @@ impl Model for Shelf {
     ghost coded = { map.code coded_ℕ record_code };
 
     ghost view = { λ s. s.table };
+}
+
+/// What takes the change of a record back.
+fn undo_there(resource: ResourceId, undo: RecordUndo) -> Undo
+    ensures { result ≡ there_at resource undo }
+{
+    Undo {
+        resource,
+        change: Change::There(undo),
+    }
+}
+
+/// What takes a new record away.
+fn undo_added(resource: ResourceId) -> Undo
+    ensures { result ≡ added_at resource }
+{
+    Undo {
+        resource,
+        change: Change::Added,
+    }
 }
 
 impl Shelf {
@@ -80,18 +103,83 @@ impl Shelf {
             (record_in self.old resource.0) origin id request.now).next) }
         ensures err { OnErr result (self.new ≡ self.old) }
     {
+        let decided = self.decide_store_with_undo(config, now, resource, origin, id, request)?;
+        Ok(decided.0)
+    }
+
+    /// Decides on a Store as `decide_store`, and says what takes the decision back: only what it
+    /// touched. After `NoMemory` the shelf is as before.
+    pub fn decide_store_with_undo(
+        &mut self,
+        config: &Config,
+        now: u64,
+        resource: ResourceId,
+        origin: NodeId,
+        id: u64,
+        request: &StoreAsked,
+    ) -> Result<(StoreVerdict, Undo), NoMemory>
+        requires clock { now < 2 ^ 62 }
+        requires counted { IsCounted (record_in self.old resource.0) }
+        requires sound { is_sound config.now request.now ≡ true }
+        ensures verdict { IfOk result (λ d. d.0
+            ≡ (outcome_of config.now now resource.0
+            (record_in self.old resource.0) origin id request.now).verdict) }
+        ensures shelf { OnOk result (self.new ≡ changed self.old resource.0
+            (outcome_of config.now now resource.0
+            (record_in self.old resource.0) origin id request.now).next) }
+        ensures undo { IfOk result (λ d. IsUndo d.1 self.new self.old) }
+        ensures err { OnErr result (self.new ≡ self.old) }
+    {
         let mut record = Record::empty(self.alloc);
         if self.table.exchange(resource.0, &mut record) {
-            let verdict = record.decide(self.alloc, config, now, resource, origin, id, request);
+            let decided = record.decide(self.alloc, config, now, resource, origin, id, request);
             self.table.exchange(resource.0, &mut record);
-            return verdict;
+            let (verdict, undo) = decided?;
+            return Ok((verdict, undo_there(resource, undo)));
         }
-        let verdict = record.decide(self.alloc, config, now, resource, origin, id, request)?;
+        let (verdict, undo) = record.decide(
+            self.alloc, config, now, resource, origin, id, request,
+        )?;
         if record.turn() == 0 {
-            return Ok(verdict);
+            return Ok((verdict, undo_there(resource, undo)));
         }
         self.table.insert(resource.0, record)?;
-        Ok(verdict)
+        Ok((verdict, undo_added(resource)))
+    }
+
+    /// Takes the last decision back. No memory is taken.
+    pub fn undo(&mut self, undo: Undo)
+        requires { (before : Map) × IsUndo undo self.old before }
+        ensures { (before : Map) → IsUndo undo self.old before → self.new ≡ before }
+    {
+        let Undo { resource, change } = undo;
+        match change {
+            Change::There(undo) => self.undo_there(resource, undo),
+            Change::Added => self.undo_added(resource),
+        }
+    }
+
+    /// Takes the last change of a record back, where there is one.
+    #[tactic(auto, unfolding(crate::specs::Undoing::change_undone))]
+    fn undo_there(&mut self, resource: ResourceId, undo: RecordUndo)
+        requires { IfSome (map.get self.old resource.0)
+            (λ x. weight (record_undone undo x).kinds ≤ MAX_WEIGHT) }
+        ensures { self.new ≡ change_undone (changes.There undo) resource.0 self.old }
+    {
+        let mut record = Record::empty(self.alloc);
+        if !self.table.exchange(resource.0, &mut record) {
+            return;
+        }
+        record.undo(undo);
+        self.table.exchange(resource.0, &mut record);
+    }
+
+    /// Takes a new record away.
+    #[tactic(auto, unfolding(crate::specs::Undoing::change_undone))]
+    fn undo_added(&mut self, resource: ResourceId)
+        ensures { self.new ≡ change_undone changes.Added resource.0 self.old }
+    {
+        self.table.remove(resource.0);
     }
 
     /// Answers a Fetch for a resource (RFC 6940, section 7.4.2), at a clock in milliseconds: its
@@ -132,15 +220,30 @@ impl Shelf {
             self.new ≡ changed self.old resource.0 (with_joined (record_in self.old resource.0))) }
         ensures err { OnErr result (self.new ≡ self.old) }
     {
+        let noted = self.set_joined_with_undo(resource)?;
+        Ok(noted.0)
+    }
+
+    /// Notes that a peer joined as `set_joined`, and says what takes that back. After `NoMemory`
+    /// the shelf is as before.
+    pub fn set_joined_with_undo(&mut self, resource: ResourceId) -> Result<(bool, Undo), NoMemory>
+        requires { (record_in self.old resource.0).turn < 2 ^ 63 }
+        ensures first { IfOk result (λ noted. noted.0 ≡ is_some (with_joined
+            (record_in self.old resource.0))) }
+        ensures shelf { OnOk result (
+            self.new ≡ changed self.old resource.0 (with_joined (record_in self.old resource.0))) }
+        ensures undo { IfOk result (λ noted. IsUndo noted.1 self.new self.old) }
+        ensures err { OnErr result (self.new ≡ self.old) }
+    {
         let mut record = Record::empty(self.alloc);
         if self.table.exchange(resource.0, &mut record) {
-            let first = record.set_joined();
+            let (first, undo) = record.set_joined();
             self.table.exchange(resource.0, &mut record);
-            return Ok(first);
+            return Ok((first, undo_there(resource, undo)));
         }
         record.set_joined();
         self.table.insert(resource.0, record)?;
-        Ok(true)
+        Ok((true, undo_added(resource)))
     }
 
     /// Puts a given record in the place of the one of a resource, exactly where the given turn is

@@ -8,9 +8,10 @@ ghost use Rattle.storage_model.specs.Decisions as decisions;
 ghost use Rattle.storage_model.specs.Decisions.{changed, effect_of, join_causes};
 ghost use Rattle.storage_model.specs.declared.answer.Answer.TheVariants as decided;
 ghost use Rattle.kind_store.specs.Steps.{IsCounted};
+ghost use Rattle.kind_store.specs.Undoing.{TakesBack};
 
 use data_models::Config;
-use kind_store::Shelf;
+use kind_store::{Shelf, Undo};
 use reload_base::{List, NoMemory};
 use reload_ids::{NodeId, ResourceId};
 use std::alloc::Global;
@@ -48,16 +49,49 @@ pub fn rule_on(
         (record_in shelf.old resource.0) origin id request.now).next) }
     ensures err { OnErr result (shelf.new ≡ shelf.old) }
 {
+    let ruled = rule_on_with_undo(alloc, shelf, config, now, resource, origin, id, request)?;
+    Ok(ruled.0)
+}
+
+/// Decides on a request as `rule_on`, and says what takes the decision back, where it may have
+/// changed the record: no more is kept for that than what it touched. After `NoMemory` the shelf is
+/// as before.
+pub fn rule_on_with_undo(
+    alloc: Global,
+    shelf: &mut Shelf,
+    config: &Config,
+    now: u64,
+    resource: ResourceId,
+    origin: NodeId,
+    id: u64,
+    request: &Asked,
+) -> Result<(Ruling, Option<Undo>), NoMemory>
+    requires clock { now < 2 ^ 62 }
+    requires counted { IsCounted (record_in shelf.old resource.0) }
+    requires sound { IsSoundAsked config.now request.now }
+    ensures answer { IfOk result (λ r. r.0.answer ≡ (effect_of config.now now resource.0
+        (record_in shelf.old resource.0) origin id request.now).answer) }
+    ensures acted { IfOk result (λ r. r.0.acted ≡ (effect_of config.now now resource.0
+        (record_in shelf.old resource.0) origin id request.now).acted) }
+    ensures shelf { OnOk result (shelf.new ≡ changed shelf.old resource.0
+        (effect_of config.now now resource.0
+        (record_in shelf.old resource.0) origin id request.now).next) }
+    ensures undo { IfOk result (λ r. TakesBack r.1 shelf.new shelf.old) }
+    ensures err { OnErr result (shelf.new ≡ shelf.old) }
+{
     match request {
-        Asked::Bad => Ok(refused(alloc, Refusal::InvalidMessage)),
-        Asked::Unsigned => Ok(refused(alloc, Refusal::Forbidden)),
-        Asked::Store(store) => Ok(stored(shelf.decide_store(
-            config, now, resource, origin, id, store,
-        )?)),
-        Asked::Fetch(fetch) => Ok(found(
-            alloc,
-            shelf.answer_fetch(alloc, config, now, resource, fetch)?,
-        )),
+        Asked::Bad => Ok((refused(alloc, Refusal::InvalidMessage), None)),
+        Asked::Unsigned => Ok((refused(alloc, Refusal::Forbidden), None)),
+        Asked::Store(store) => {
+            let (verdict, undo) = shelf.decide_store_with_undo(
+                config, now, resource, origin, id, store,
+            )?;
+            Ok((stored(verdict), Some(undo)))
+        }
+        Asked::Fetch(fetch) => {
+            let verdict = shelf.answer_fetch(alloc, config, now, resource, fetch)?;
+            Ok((found(alloc, verdict), None))
+        }
         Asked::Join(join) => rule_on_join(alloc, shelf, config, resource, join),
     }
 }
@@ -127,22 +161,24 @@ fn rule_on_join(
     config: &Config,
     resource: ResourceId,
     join: &JoinAsked,
-) -> Result<Ruling, NoMemory>
+) -> Result<(Ruling, Option<Undo>), NoMemory>
     requires { (record_in shelf.old resource.0).turn < 2 ^ 63 }
-    ensures answer { IfOk result (λ r. r.answer ≡ (decisions.joined
+    ensures answer { IfOk result (λ r. r.0.answer ≡ (decisions.joined
         (first_cause (join_causes config.now join.now)) (record_in shelf.old resource.0)).answer) }
-    ensures acted { IfOk result (λ r. r.acted ≡ (decisions.joined
+    ensures acted { IfOk result (λ r. r.0.acted ≡ (decisions.joined
         (first_cause (join_causes config.now join.now)) (record_in shelf.old resource.0)).acted) }
     ensures shelf { OnOk result (shelf.new ≡ changed shelf.old resource.0 (decisions.joined
         (first_cause (join_causes config.now join.now)) (record_in shelf.old resource.0)).next) }
+    ensures undo { IfOk result (λ r. TakesBack r.1 shelf.new shelf.old) }
     ensures err { OnErr result (shelf.new ≡ shelf.old) }
 {
     if let Some(cause) = join_cause(config, join) {
-        return Ok(refused(alloc, cause));
+        return Ok((refused(alloc, cause), None));
     }
-    shelf.set_joined(resource)?;
-    Ok(Ruling {
+    let (_, undo) = shelf.set_joined_with_undo(resource)?;
+    let ruling = Ruling {
         answer: Answer::Joined,
         acted: false,
-    })
+    };
+    Ok((ruling, Some(undo)))
 }

@@ -11,5 +11,5 @@ mod store;
 pub use asked::asked_in;
 pub use asker::{is_decided, origin_of, refusal_of};
 pub use body::{body_of, refusal_body};
-pub use decision::{Ruling, rule_on};
+pub use decision::{Ruling, rule_on, rule_on_with_undo};
 pub use reading::read_request;

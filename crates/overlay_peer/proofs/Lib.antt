@@ -1,5 +1,4 @@
 pub mod Sendings
-pub mod Undoings
 pub mod Counts
 pub mod Keeping
 pub mod Deciding

@@ -2,4 +2,3 @@ pub mod Memberships
 pub mod Codes
 pub mod Kept
 pub mod Plans
-pub mod Undoing

@@ -1,26 +1,24 @@
 //! Decisions of a peer.
 
 ghost use Rattle.std.specs.Prelude.{◌≡◌, ◌^◌, ◌<◌, ◌∷◌, ℕ, [], Some, Option, IfOk, OnOk, OnErr};
-ghost use Rattle.data_models.specs.declared.config.Config.{Config};
 ghost use Rattle.storage_model.specs.Laws.{IsSoundAsked};
-ghost use Rattle.storage_model.specs.Records.{Map, Record};
-ghost use Rattle.storage_model.specs.Decisions.{changed};
+ghost use Rattle.storage_model.specs.Records.{Map};
 ghost use Rattle.node_messages.specs.Signed.{words_of};
 ghost use Rattle.node_links.specs.Sendings.{post_of, IsSending};
 ghost use Rattle.node_model.specs.declared.notice.Notice.TheVariants as notices;
 ghost use Rattle.node_model.specs.declared.limits.TheConstants.{MAX_LOAD};
 ghost use Rattle.node_model.specs.Nodes.{work, node_after};
 ghost use Rattle.node_model.specs.Peers as model;
-ghost use Rattle.overlay_peer.specs.Plans.{effect_on, answer_post, answer_outputs, decided_on, heard_with};
-ghost use Rattle.overlay_peer.specs.Undoing.{IsUndo, HasRoom};
+ghost use Rattle.overlay_peer.specs.Plans.{answer_post, answer_outputs, decided_on, heard_with};
+ghost use Rattle.kind_store.specs.Undoing.{TakesBack};
 
 use crate::peer::Peer;
 use crate::plan::Question;
 use crate::reply::reply;
 use chord_tables::Tables;
 use forwarding_header::Header;
-use kind_store::{Record, Shelf};
-use message_askings::{Ruling, body_of, rule_on};
+use kind_store::{Shelf, Undo};
+use message_askings::{Ruling, body_of, rule_on_with_undo};
 use node_links::{Node, Sending};
 use node_model::{Notice, Outputs};
 use reload_base::{List, NoMemory};
@@ -29,38 +27,13 @@ use security_block::Signer;
 use std::alloc::Global;
 use storage_model::{Answer, Asked};
 
-/// What takes a decision back, where there is no memory for the rest.
-#[derive(Drop)]
-enum Undo {
-    /// It changes nothing.
-    Nothing,
-    /// The record that was there before, if there was one, is put back.
-    PutBack(Option<Record>),
-}
-
-/// What will take the decision on a request back. A Fetch, and a request that is refused unread,
-/// change nothing, and nothing is copied for them.
-fn undo_of(alloc: Global, shelf: &Shelf, question: &Question) -> Result<Undo, NoMemory>
-    ensures { (config : Config) (now : ℕ) → IfOk result (IsUndo shelf.now question.now.resource.0
-        (effect_on shelf.now config now question.now).next) }
-{
-    match &question.request {
-        Asked::Store(_) | Asked::Join(_) => {
-            Ok(Undo::PutBack(shelf.copy_record(alloc, question.resource)?))
-        }
-        Asked::Bad | Asked::Unsigned | Asked::Fetch(_) => Ok(Undo::Nothing),
-    }
-}
-
 /// Takes a decision back. No memory is taken.
-fn take_back(shelf: &mut Shelf, resource: ResourceId, undo: Undo)
-    requires { HasRoom shelf.old resource.0 undo }
-    ensures { (m : Map) (next : Option Record) → IsUndo m resource.0 next undo
-        → shelf.old ≡ changed m resource.0 next → shelf.new ≡ m }
+fn take_back(shelf: &mut Shelf, undo: Option<Undo>)
+    requires { (before : Map) × TakesBack undo shelf.old before }
+    ensures { (before : Map) → TakesBack undo shelf.old before → shelf.new ≡ before }
 {
-    match undo {
-        Undo::Nothing => {}
-        Undo::PutBack(before) => shelf.put_back(resource, before),
+    if let Some(undo) = undo {
+        shelf.undo(undo);
     }
 }
 
@@ -165,7 +138,7 @@ impl Peer {
         question: Question,
     ) -> Result<Outputs, NoMemory>
         requires clock { now < 2 ^ 62 }
-        requires light { model.load self.old < 2 ^ 28 }
+        requires light { model.load self.old < MAX_LOAD }
         requires sound { IsSoundAsked self.old.node.config question.request }
         ensures outputs { let words = words_of G.certificate_of G.signature_of G.about_of G.verifies
             signer.now
@@ -177,14 +150,12 @@ impl Peer {
             (decided_on words self.old now from question) self.old).node) }
         ensures err { OnErr result (self.new ≡ self.old) }
     {
-        let undo = undo_of(alloc, &self.shelf, &question)?;
-        let resource = question.resource;
-        let ruling = rule_on(
+        let (ruling, undo) = rule_on_with_undo(
             alloc,
             &mut self.shelf,
             self.node.config(),
             now,
-            resource,
+            question.resource,
             question.origin,
             question.id,
             &question.request,
@@ -195,7 +166,7 @@ impl Peer {
         ) {
             Ok(outputs) => Ok(outputs),
             Err(error) => {
-                take_back(&mut self.shelf, resource, undo);
+                take_back(&mut self.shelf, undo);
                 Err(error)
             }
         }

@@ -4,6 +4,7 @@ ghost use Rattle.std.specs.Prelude.{◌≡◌, ◌^◌, ◌<◌, ℕ, IfOk, IfSo
 ghost use Rattle.std.specs.Option.{option_map};
 ghost use Rattle.node_messages.specs.Signed.{words_of};
 ghost use Rattle.node_links.specs.Sendings.{post_of, IsSending};
+ghost use Rattle.node_model.specs.declared.limits.TheConstants.{MAX_LOAD};
 ghost use Rattle.node_model.specs.Peers as model;
 ghost use Rattle.overlay_peer.specs.Plans.{planned, IsPlan, heard_with};
 
@@ -52,7 +53,7 @@ impl Peer {
         sequence: u32,
         sending: Option<Sending<'_>>,
     ) -> Result<Outputs, NoMemory>
-        requires light { model.load self.old < 2 ^ 28 }
+        requires light { model.load self.old < MAX_LOAD }
         requires fits { IfSome sending IsSending }
         ensures outputs { IfOk result (λ out. out ≡ (heard_with from sequence
             (model.sends self.old (option_map post_of sending.entry)) self.old).outputs) }
@@ -78,7 +79,7 @@ impl Peer {
         signer: &G,
     ) -> Result<Outputs, NoMemory>
         requires clock { now < 2 ^ 62 }
-        requires light { model.load self.old < 2 ^ 28 }
+        requires light { model.load self.old < MAX_LOAD }
         ensures outputs { let words = words_of G.certificate_of G.signature_of G.about_of G.verifies
             signer.now
             in IfOk result (λ out. out ≡ (heard_with from sequence
@@ -106,7 +107,7 @@ impl Peer {
         signer: &G,
     ) -> Result<Outputs, NoMemory>
         requires clock { now < 2 ^ 62 }
-        requires light { model.load self.old < 2 ^ 28 }
+        requires light { model.load self.old < MAX_LOAD }
         ensures outputs { let words = words_of G.certificate_of G.signature_of G.about_of G.verifies
             signer.now
             in IfOk result (λ out. out

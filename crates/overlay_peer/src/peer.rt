@@ -7,6 +7,7 @@ ghost use Rattle.chord_tables.specs.Tables.{alone};
 ghost use Rattle.node_messages.specs.Signed.{words_of};
 ghost use Rattle.node_links.specs.declared.limits.TheConstants.{MAX_NUMBER};
 ghost use Rattle.node_model.specs.Nodes.{cause_of};
+ghost use Rattle.node_model.specs.declared.limits.TheConstants.{MAX_LOAD};
 ghost use Rattle.node_model.specs.Peers as model;
 ghost use Rattle.overlay_peer.specs.Kept.{peer_of};
 
@@ -119,7 +120,7 @@ impl Peer {
         signer: &G,
     ) -> Result<Outputs, NoMemory>
         requires clock { now < 2 ^ 62 }
-        requires light { model.load self.old < 2 ^ 28 }
+        requires light { model.load self.old < MAX_LOAD }
         // What it puts out.
         ensures outputs { let words = words_of G.certificate_of G.signature_of G.about_of G.verifies
             signer.now
@@ -141,7 +142,7 @@ impl Peer {
     /// An input that it does nothing with.
     #[tactic(auto, unfolding(node_model::specs::Peers::idles, node_model::specs::Nodes::counted))]
     pub(crate) fn pass_over(&mut self, alloc: Global) -> Outputs
-        requires { model.load self.old < 2 ^ 28 }
+        requires { model.load self.old < MAX_LOAD }
         ensures outputs { result ≡ (model.idles self.old).outputs }
         ensures peer { self.new ≡ (model.idles self.old).node }
     {

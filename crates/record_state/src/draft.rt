@@ -4,7 +4,7 @@ ghost use Rattle.std.specs.Prelude.{◌≡◌, OnOk};
 
 use crate::kinds::Kinds;
 use crate::slot::SlotState;
-use crate::undo::Undo;
+use crate::undo::{KindsUndo, Undo};
 use reload_base::{Bytes, List, NoMemory};
 use std::alloc::Global;
 use std::marker::Model;
@@ -32,6 +32,7 @@ impl Model for Draft {
 
 impl Draft {
     ghost use Rattle.record_state.specs.Undo.{slot_put};
+    ghost use Rattle.record_state.specs.Log.{kinds_undone};
 
     /// Kinds of which nothing is changed yet.
     #[tactic(auto, unfolding(crate::specs::Log::all_undone))]
@@ -79,16 +80,18 @@ impl Draft {
         self.kinds.renew_soonest(self.alloc, id);
     }
 
-    /// The kinds as they are now.
-    pub fn commit(self) -> Kinds
-        ensures { result ≡ self.kinds }
+    /// The kinds as they are now, and what makes them again what they were before.
+    pub fn commit(self) -> (Kinds, KindsUndo)
+        ensures kinds { result.0 ≡ self.kinds }
+        ensures undo { kinds_undone result.1 self.kinds ≡ self.before }
     {
         let Draft {
             alloc: _,
             kinds,
-            log: _,
+            log,
         } = self;
-        kinds
+        let log = List::from_vec(log);
+        (kinds, KindsUndo { log })
     }
 
     /// The kinds as they were before. No memory is taken.
@@ -97,10 +100,8 @@ impl Draft {
     {
         let Draft { alloc, kinds, log } = self;
         let mut kinds = kinds;
-        let mut log = List::from_vec(log);
-        while let Some(undo) = log.pop() {
-            kinds.undo(alloc, undo);
-        }
+        let log = List::from_vec(log);
+        kinds.undo_all(alloc, KindsUndo { log });
         kinds
     }
 }

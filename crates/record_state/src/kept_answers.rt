@@ -6,6 +6,7 @@ ghost use Rattle.circular_buffer.specs.Buffer.{buffer};
 ghost use Rattle.reload_base.specs.Lists.{pushed_within};
 ghost use Rattle.storage_model.specs.declared.limits.TheConstants.{MAX_KEPT};
 ghost use Rattle.storage_model.specs.Records.{kept_for};
+ghost use Rattle.record_state.specs.Rings.{taken_back};
 
 use circular_buffer::HeapCircularBuffer;
 use reload_base::{List, NoMemory, TryCopy};
@@ -74,28 +75,49 @@ fn append(ring: &mut HeapCircularBuffer<Kept>, answer: Kept)
     let _oldest = ring.push_back(answer);
 }
 
-/// Adds an answer at the end of a ring, in place of the oldest where all room is taken.
-#[tactic(auto, using(crate::proofs::Rings::kept_last))]
-fn add(ring: &mut HeapCircularBuffer<Kept>, answer: Kept)
+/// Adds an answer at the end of a ring, in place of the oldest where all room is taken, and hands
+/// that back.
+#[tactic(auto, using(crate::proofs::Rings::kept_last, crate::proofs::Rings::last_taken))]
+fn add(ring: &mut HeapCircularBuffer<Kept>, answer: Kept) -> Option<Kept>
     requires within { ring.old.capacity ≤ MAX_KEPT }
     requires room { (length ring.old.items < ring.old.capacity) ⊎ (ring.old.capacity ≡ MAX_KEPT) }
     ensures items { ring.new.items ≡ pushed_within MAX_KEPT ring.old.items answer }
+    ensures oldest { taken_back result (pushed_within MAX_KEPT ring.old.items answer)
+        ≡ ring.old.items }
     ensures within { ring.new.capacity ≤ MAX_KEPT }
 {
     let _capacity = ring.capacity();
-    let _oldest = ring.push_back(answer);
+    ring.push_back(answer)
 }
 
-/// Keeps an answer in a ring. After `NoMemory` its answers are as before.
-fn keep(ring: &mut HeapCircularBuffer<Kept>, answer: Kept) -> Result<(), NoMemory>
+/// Keeps an answer in a ring, and hands back the oldest, where it leaves. After `NoMemory` its
+/// answers are as before.
+fn keep(ring: &mut HeapCircularBuffer<Kept>, answer: Kept) -> Result<Option<Kept>, NoMemory>
     requires { ring.old.capacity ≤ MAX_KEPT }
     ensures ok { OnOk result (ring.new.items ≡ pushed_within MAX_KEPT ring.old.items answer) }
+    ensures oldest { IfOk result (λ oldest. taken_back oldest ring.new.items ≡ ring.old.items) }
     ensures err { OnErr result (ring.new.items ≡ ring.old.items) }
     ensures within { ring.new.capacity ≤ MAX_KEPT }
 {
     make_room(ring)?;
-    add(ring, answer);
-    Ok(())
+    Ok(add(ring, answer))
+}
+
+/// Takes the last answer of a ring back, and puts the oldest before the others again, where it
+/// left.
+#[tactic(auto, unfolding(crate::specs::Rings::taken_back))]
+fn drop_last(ring: &mut HeapCircularBuffer<Kept>, oldest: Option<Kept>)
+    requires { ring.old.capacity ≤ MAX_KEPT }
+    ensures items { ring.new.items ≡ taken_back oldest ring.old.items }
+    ensures within { ring.new.capacity ≤ MAX_KEPT }
+{
+    let _capacity = ring.capacity();
+    if ring.pop_back().is_none() {
+        return;
+    }
+    if let Some(first) = oldest {
+        ring.push_front(first);
+    }
 }
 
 /// A ring with one answer.
@@ -146,18 +168,32 @@ impl KeptAnswers {
         KeptAnswers { alloc, ring: None }
     }
 
-    /// Keeps an answer, in place of the oldest of [`MAX_KEPT`]. After `NoMemory` all is as before.
-    #[tactic(auto, using(crate::proofs::Rings::first_kept))]
-    pub fn push(&mut self, answer: Kept) -> Result<(), NoMemory>
+    /// Keeps an answer, in place of the oldest of [`MAX_KEPT`], which is handed back. After
+    /// `NoMemory` all is as before.
+    #[tactic(auto, using(crate::proofs::Rings::first_kept, crate::proofs::Rings::first_taken))]
+    pub fn push(&mut self, answer: Kept) -> Result<Option<Kept>, NoMemory>
         ensures ok { OnOk result (self.new ≡ pushed_within MAX_KEPT self.old answer) }
+        ensures oldest { IfOk result (λ oldest. taken_back oldest self.new ≡ self.old) }
         ensures err { OnErr result (self.new ≡ self.old) }
     {
         match &mut self.ring {
             Some(ring) => keep(ring, answer),
             None => {
                 self.ring = Some(ring_of(self.alloc, answer)?);
-                Ok(())
+                Ok(None)
             }
+        }
+    }
+
+    /// Takes the last answer back, with the oldest that left for it, if one did. No memory is
+    /// taken.
+    #[tactic(auto, unfolding(crate::specs::Rings::taken_back))]
+    pub fn take_back(&mut self, oldest: Option<Kept>)
+        ensures { self.new ≡ taken_back oldest self.old }
+    {
+        match &mut self.ring {
+            Some(ring) => drop_last(ring, oldest),
+            None => {}
         }
     }
 

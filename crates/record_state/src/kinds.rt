@@ -8,7 +8,7 @@ ghost use Rattle.std.specs.FinMap as map;
 
 use crate::kind::KindState;
 use crate::slot::SlotState;
-use crate::undo::Undo;
+use crate::undo::{KindsUndo, Undo};
 use ordered_tables::NumberTable;
 use reload_base::{Bytes, NoMemory, TryCopy};
 use std::alloc::Global;
@@ -40,7 +40,7 @@ impl Model for Kinds {
 impl Kinds {
     ghost use Rattle.record_state.specs.Light.{kinds_sum, AreKindIds};
     ghost use Rattle.record_state.specs.Undo.{slot_put, restored};
-    ghost use Rattle.record_state.specs.Log.{undone};
+    ghost use Rattle.record_state.specs.Log.{undone, kinds_undone};
 
     /// No kinds.
     pub fn new(alloc: Global) -> Kinds
@@ -211,6 +211,17 @@ impl Kinds {
         match counters {
             Some(counters) => self.restore(alloc, id, counters, key.as_slice(), before),
             None => self.remove(id),
+        }
+    }
+
+    /// Makes kinds again what they were before slots were put. No memory is taken.
+    pub fn undo_all(&mut self, alloc: Global, undo: KindsUndo)
+        ensures { self.new ≡ kinds_undone undo self.old }
+    {
+        let KindsUndo { log } = undo;
+        let mut log = log;
+        while let Some(undo) = log.pop() {
+            self.undo(alloc, undo);
         }
     }
 

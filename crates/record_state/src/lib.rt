@@ -28,3 +28,4 @@ pub use kinds::Kinds;
 pub use puts::put_kinds;
 pub use slot::SlotState;
 pub use slots::Slots;
+pub use undo::KindsUndo;

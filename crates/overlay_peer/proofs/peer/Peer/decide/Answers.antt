@@ -8,10 +8,8 @@ use Rattle.node_model.specs.Nodes.{Node}
 use Rattle.node_model.specs.Peers.{Peer}
 use Rattle.overlay_peer.specs.Kept.{IsKept, peer_of}
 use Rattle.overlay_peer.specs.Plans.{effect_on, answer_post, answer_outputs}
-use Rattle.overlay_peer.specs.Undoing.{HasRoom}
 use Rattle.overlay_peer.proofs.Deciding.{outputs_are}
 use Rattle.overlay_peer.proofs.Keeping.{kept_decided}
-use Rattle.overlay_peer.proofs.Undoings.{has_room}
 use Rattle.overlay_peer.proofs.peer.Peer.decide.Goals as goal
 
 pub invariant_of-self-in-Ok : goal.invariant_of-self-in-Ok
@@ -19,7 +17,7 @@ invariant_of-self-in-Ok g c =
     let words = words_of g.G.Signer.certificate_of g.G.Signer.signature_of g.G.Signer.about_of g.G.Signer.verifies c.args.signer.now in
     let own : c.args.self.now.node.config ≡ c.config.result.now = sym (c.config.ensures ∙ ap (λ (p : Peer). p.node.config) c.self.view_is) in
     kept_decided c.args.from c.args.sequence (Some (answer_post words c.self.inside.node c.self.inside.tables c.args.from c.args.question.reply c.in_ok-ruling.ruling.answer))
-    c.self.inside.node c.answer.new.node c.self.inside.tables c.self.inside.shelf c.rule_on.new.shelf c.config.result.now c.args.now c.args.question
+    c.self.inside.node c.answer.new.node c.self.inside.tables c.self.inside.shelf c.rule_on_with_undo.new.shelf c.config.result.now c.args.now c.args.question
     c.in-Ok.ensures.node c.in_ok-ruling.ensures.shelf (subst (λ (k : Config). IsSoundAsked k c.args.question.request) own c.requires.sound) c.self.invariant
 
 pub invariant_of-self-in-Ok-2 : goal.invariant_of-self-in-Ok-2
@@ -27,7 +25,7 @@ invariant_of-self-in-Ok-2 g c =
     let words = words_of g.G.Signer.certificate_of g.G.Signer.signature_of g.G.Signer.about_of g.G.Signer.verifies c.args.signer.now in
     let own : c.args.self.now.node.config ≡ c.config.result.now = sym (c.config.ensures ∙ ap (λ (p : Peer). p.node.config) c.self.view_is) in
     kept_decided c.args.from c.args.sequence (Some (answer_post words c.self.inside.node c.self.inside.tables c.args.from c.args.question.reply c.in_ok-ruling.ruling.answer))
-    c.self.inside.node c.answer.new.node c.self.inside.tables c.self.inside.shelf c.rule_on.new.shelf c.config.result.now c.args.now c.args.question
+    c.self.inside.node c.answer.new.node c.self.inside.tables c.self.inside.shelf c.rule_on_with_undo.new.shelf c.config.result.now c.args.now c.args.question
     c.in-Ok.ensures.node c.in_ok-ruling.ensures.shelf (subst (λ (k : Config). IsSoundAsked k c.args.question.request) own c.requires.sound) c.self.invariant
 
 pub invariant_of-self-in-Ok-3 : goal.invariant_of-self-in-Ok-3
@@ -35,7 +33,7 @@ invariant_of-self-in-Ok-3 g c =
     let words = words_of g.G.Signer.certificate_of g.G.Signer.signature_of g.G.Signer.about_of g.G.Signer.verifies c.args.signer.now in
     let own : c.args.self.now.node.config ≡ c.config.result.now = sym (c.config.ensures ∙ ap (λ (p : Peer). p.node.config) c.self.view_is) in
     kept_decided c.args.from c.args.sequence (Some (answer_post words c.self.inside.node c.self.inside.tables c.args.from c.args.question.reply c.in_ok-ruling.ruling.answer))
-    c.self.inside.node c.answer.new.node c.self.inside.tables c.self.inside.shelf c.rule_on.new.shelf c.config.result.now c.args.now c.args.question
+    c.self.inside.node c.answer.new.node c.self.inside.tables c.self.inside.shelf c.rule_on_with_undo.new.shelf c.config.result.now c.args.now c.args.question
     c.in-Ok.ensures.node c.in_ok-ruling.ensures.shelf (subst (λ (k : Config). IsSoundAsked k c.args.question.request) own c.requires.sound) c.self.invariant
 
 pub invariant_of-self-in-Ok-4 : goal.invariant_of-self-in-Ok-4
@@ -43,27 +41,30 @@ invariant_of-self-in-Ok-4 g c =
     let words = words_of g.G.Signer.certificate_of g.G.Signer.signature_of g.G.Signer.about_of g.G.Signer.verifies c.args.signer.now in
     let own : c.args.self.now.node.config ≡ c.config.result.now = sym (c.config.ensures ∙ ap (λ (p : Peer). p.node.config) c.self.view_is) in
     kept_decided c.args.from c.args.sequence (Some (answer_post words c.self.inside.node c.self.inside.tables c.args.from c.args.question.reply c.in_ok-ruling.ruling.answer))
-    c.self.inside.node c.answer.new.node c.self.inside.tables c.self.inside.shelf c.rule_on.new.shelf c.config.result.now c.args.now c.args.question
+    c.self.inside.node c.answer.new.node c.self.inside.tables c.self.inside.shelf c.rule_on_with_undo.new.shelf c.config.result.now c.args.now c.args.question
+    c.in-Ok.ensures.node c.in_ok-ruling.ensures.shelf (subst (λ (k : Config). IsSoundAsked k c.args.question.request) own c.requires.sound) c.self.invariant
+
+pub invariant_of-self-in-Ok-5 : goal.invariant_of-self-in-Ok-5
+invariant_of-self-in-Ok-5 g c =
+    let words = words_of g.G.Signer.certificate_of g.G.Signer.signature_of g.G.Signer.about_of g.G.Signer.verifies c.args.signer.now in
+    let own : c.args.self.now.node.config ≡ c.config.result.now = sym (c.config.ensures ∙ ap (λ (p : Peer). p.node.config) c.self.view_is) in
+    kept_decided c.args.from c.args.sequence (Some (answer_post words c.self.inside.node c.self.inside.tables c.args.from c.args.question.reply c.in_ok-ruling.ruling.answer))
+    c.self.inside.node c.answer.new.node c.self.inside.tables c.self.inside.shelf c.rule_on_with_undo.new.shelf c.config.result.now c.args.now c.args.question
     c.in-Ok.ensures.node c.in_ok-ruling.ensures.shelf (subst (λ (k : Config). IsSoundAsked k c.args.question.request) own c.requires.sound) c.self.invariant
 
 pub take_back-requires : goal.take_back-requires
-take_back-requires g c =
-    let next = (effect_on c.self.inside.shelf c.config.result.now c.args.now c.args.question).next in
-    subst (λ (s : Map). HasRoom s c.args.question.resource.0 c.in_ok-undo.undo) (sym c.in_ok-ruling.ensures.shelf)
-    (has_room c.self.inside.shelf c.args.question.resource.0 next c.in_ok-undo.undo (c.in_ok-undo.ensures c.config.result.now c.args.now))
+take_back-requires g c = (c.self.inside.shelf, c.in_ok-ruling.ensures.undo)
 
 pub invariant_of-self-in-Err : goal.invariant_of-self-in-Err
 invariant_of-self-in-Err g c =
-    let next = (effect_on c.self.inside.shelf c.config.result.now c.args.now c.args.question).next in
-    let back : c.take_back.new.shelf ≡ c.self.inside.shelf = c.take_back.ensures c.self.inside.shelf next (c.in_ok-undo.ensures c.config.result.now c.args.now) c.in_ok-ruling.ensures.shelf in
+    let back : c.take_back.new.shelf ≡ c.self.inside.shelf = c.take_back.ensures c.self.inside.shelf c.in_ok-ruling.ensures.undo in
     subst (λ (n : Node). IsKept n c.self.inside.tables c.take_back.new.shelf) (sym c.in-Err.ensures.err)
     (subst (λ (s : Map). IsKept c.self.inside.node c.self.inside.tables s) (sym back) c.self.invariant)
 
 pub returns-in-Err-clause-err : goal.returns-in-Err-clause-err
 returns-in-Err-clause-err g c =
-    let next = (effect_on c.self.inside.shelf c.config.result.now c.args.now c.args.question).next in
     let i = c.self.inside in
-    let back : c.take_back.new.shelf ≡ i.shelf = c.take_back.ensures i.shelf next (c.in_ok-undo.ensures c.config.result.now c.args.now) c.in_ok-ruling.ensures.shelf in
+    let back : c.take_back.new.shelf ≡ i.shelf = c.take_back.ensures i.shelf c.in_ok-ruling.ensures.undo in
     ap (λ (n : Node). peer_of n i.membership i.tables c.take_back.new.shelf i.table i.taken i.queued) c.in-Err.ensures.err
     ∙ ap (λ (s : Map). peer_of i.node i.membership i.tables s i.table i.taken i.queued) back
     ∙ c.self.view_is
