@@ -1,5 +1,5 @@
 -- The clock of a run: nodes tell decisions at it, and no event but the one for it moves it.
-use Rattle.std.proofs.Common.{◌≡◌, ℕ, zero, suc, ◌-◌, ◌≤◌, List, [], ◌∷◌, map, Bool, true, false, cond, Option, Some, None, refl, sym, ◌∙◌, subst, arith}
+use Rattle.std.proofs.Common.{◌≡◌, ℕ, zero, suc, ◌+◌, ◌-◌, ◌≤◌, List, [], ◌∷◌, map, Bool, true, false, cond, Option, Some, None, refl, sym, ◌∙◌, subst, arith}
 use Rattle.std.specs.Prelude.{position, slice_get}
 use Rattle.std.specs.Option.{option_map_or}
 use Rattle.std.specs.FinMap.{get}
@@ -148,6 +148,27 @@ passes_moved words line (Lose k) w = passes w.clock _ (stays_if w.clock (is_fram
 passes_moved words line (Drain n) w = passes w.clock _ (stays_drained words n w)
 passes_moved words line (Ask client peer command) w =
     passes w.clock _ (stays_if w.clock (is_asked (get w.actors peer)) _ _ (stays_asking words line client (aimed command) w (node_of w.names peer)) (stays_no_node w line))
+
+-- a move of the clock by no more than this, or any other event
+abbrev pub IsSlow : ℕ → Move → Type 0
+IsSlow most (Clock ms) = ms ≤ most
+IsSlow most (Deliver k) = Unit {0}
+IsSlow most (Lose k) = Unit {0}
+IsSlow most (Drain n) = Unit {0}
+IsSlow most (Ask client peer command) = Unit {0}
+
+stays_slow : (now most : ℕ) (d : Done) → Stays now d → d.world.clock ≤ now + most
+stays_slow now most d s = omega (arith, s.same)
+
+-- an event moves the clock on no more than it says
+pub moved_slowly : (words : SignerWords) (line most : ℕ) (move : Move) (w : World) → IsSlow most move → (moved words line move w).world.clock ≤ w.clock + most
+unfolding delivered lost lost_at told
+moved_slowly words line most (Clock ms) w slow = omega (arith, slow)
+moved_slowly words line most (Deliver k) w slow = stays_slow w.clock most _ (stays_if w.clock (is_frame k w) _ _ (stays_flown_at words (k - 1) w) (stays_no_frame w line))
+moved_slowly words line most (Lose k) w slow = stays_slow w.clock most _ (stays_if w.clock (is_frame k w) _ _ (stays_lost (k - 1) w (slice_get w.flights (k - 1))) (stays_no_frame w line))
+moved_slowly words line most (Drain n) w slow = stays_slow w.clock most _ (stays_drained words n w)
+moved_slowly words line most (Ask client peer command) w slow =
+    stays_slow w.clock most _ (stays_if w.clock (is_asked (get w.actors peer)) _ _ (stays_asking words line client (aimed command) w (node_of w.names peer)) (stays_no_node w line))
 
 -- the decisions of any events are in time
 pub run_timed : (words : SignerWords) (config : Config) (w : World) (es : List Event) → IsTimed w.clock (decided config (happenings words w es))

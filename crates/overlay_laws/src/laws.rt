@@ -99,8 +99,8 @@ pub fn owners_have_the_record_of_the_one_map()
 {}
 
 /// A request for a resource stays with the member that owns it, and goes on from each other one to
-/// a member that is nearer to the owner, with one hop less and the node that it came from behind its
-/// via list.
+/// a member that is nearer to the owner, with one hop less and the node that it came from behind
+/// its via list.
 pub fn requests_go_to_the_owner()
     ensures owner { (members : List ℕ) (from : NodeId) (t : Tables) (size : ℕ)
         (resource : ResourceId) (h : Header) → AreMembers members → resource.0 < 2 ^ 128

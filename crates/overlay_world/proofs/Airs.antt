@@ -1,13 +1,13 @@
 -- Airs, and what stops the frames on their way into them.
-use Rattle.std.proofs.Common.{◌≡◌, ℕ, ◌+◌, ◌<◌, ◌≤◌, List, [], ◌∷◌, ◌++◌, length, map, take, get_or, drop, refl, sym, ap, subst, ◌∙◌, arith, append_assoc}
-use Rattle.std.specs.Prelude.{Result, Ok, Err, IfErr, OnOk}
+use Rattle.std.proofs.Common.{◌≡◌, ℕ, ◌+◌, ◌<◌, ◌≤◌, List, [], ◌∷◌, ◌++◌, length, take, get_or, drop, sym, ap, subst, ◌∙◌, arith, append_assoc}
+use Rattle.std.specs.Prelude.{Result, Ok, Err, OnOk}
 use Rattle.std.proofs.lemmas.List.{append-nil, take-append-drop, drop_more}
 use Rattle.reload_base.specs.declared.air.AirFrame.{AirFrame}
 use Rattle.reload_base.specs.Outside.{AirView, raised, size_of}
 use Rattle.run_model.specs.declared.limits.TheConstants.{MAX_AIR}
 use Rattle.overlay_world.specs.declared.fault.StepFault.{StepFault}
 use Rattle.overlay_world.specs.declared.fault.StepFault.TheVariants.{LinkFault, AirFull, NodeFull, NoMemory}
-use Rattle.overlay_world.specs.Sendings.{with_frame, with_frames, IsUnsent, IsFrontOf, IsFullFor, Halts, IsNone}
+use Rattle.overlay_world.specs.Sendings.{IsUnsent, IsFrontOf, IsFullFor, Halts}
 
 -- ---- lists
 

@@ -1,5 +1,5 @@
 -- Each frame that a node sends has a byte.
-use Rattle.std.proofs.Common.{◌≡◌, ℕ, ◌<◌, ◌++◌, List, [], ◌∷◌, Bool, true, false, cond, length, arith}
+use Rattle.std.proofs.Common.{ℕ, ◌++◌, List, [], ◌∷◌, true, false, cond, arith}
 use Rattle.std.specs.Prelude.{All, Option, Some, None}
 use Rattle.std.specs.Option.{option_map_or}
 use Rattle.std.proofs.lemmas.List.{length-append}

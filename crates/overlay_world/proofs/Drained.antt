@@ -2,16 +2,14 @@
 use Rattle.std.proofs.Common.{◌≡◌, ℕ, zero, suc, ◌+◌, ◌-◌, ◌<◌, ◌≤◌, List, [], ◌++◌, refl, sym, ap, subst, ◌∙◌, arith, append_assoc}
 use Rattle.std.specs.Prelude.{Option, Some, None, position}
 use Rattle.std.specs.Option.{option_map_or, option_and_then}
-use Rattle.std.specs.FinMap.{get}
 use Rattle.std.proofs.lemmas.List.{append-nil}
 use Rattle.reload_base.specs.Outside.{AirView}
 use Rattle.node_messages.specs.Signed.{SignerWords}
-use Rattle.node_model.specs.declared.limits.TheConstants.{MAX_LOAD}
 use Rattle.run_model.specs.declared.happening.Happening.{Happening}
 use Rattle.run_model.specs.declared.moves.Move.TheVariants.{Drain}
 use Rattle.run_model.specs.Worlds.{World, Done, quiet, then_on}
 use Rattle.run_model.specs.Moves.{is_waiting, flown_at, drained}
-use Rattle.run_model.specs.Stops.{frames_in, load_of, hearer_at, IsNodeFull}
+use Rattle.run_model.specs.Stops.{frames_in, hearer_at, IsNodeFull}
 use Rattle.overlay_world.specs.declared.fault.StepFault.{StepFault}
 use Rattle.overlay_world.specs.Sendings.{Halts, IsFullAt}
 use Rattle.overlay_world.proofs.Airs.{same_air, halts_more, halts_same, halts_since}

@@ -1,6 +1,6 @@
 -- A frame that comes to its node, and a node that handles something.
-use Rattle.std.proofs.Common.{◌≡◌, ℕ, ◌+◌, ◌-◌, ◌<◌, ◌≤◌, List, [], ◌∷◌, ◌++◌, ◌≢◌, ◌||◌, not, inl, inr, Bool, true, false, cond, length, map, refl, sym, ap, subst, ◌∙◌, arith}
-use Rattle.std.specs.Prelude.{Option, Some, None, All, ◌==◌, nat_lt, position, slice_get, slice_set}
+use Rattle.std.proofs.Common.{◌≡◌, ℕ, ◌-◌, ◌<◌, ◌≤◌, List, [], ◌++◌, ◌≢◌, ◌||◌, not, inl, inr, Bool, true, false, cond, length, map, refl, sym, ap, subst, ◌∙◌, arith}
+use Rattle.std.specs.Prelude.{Option, Some, None, All, ◌==◌, nat_lt, slice_get, slice_set}
 use Rattle.std.specs.Option.{option_map, option_map_or, option_and_then}
 use Rattle.std.specs.Ordering.{nat_cmp}
 use Rattle.std.specs.FinMap.{FinMap, get, insert}
@@ -27,7 +27,7 @@ use Rattle.overlay_world.specs.declared.fault.StepFault.TheVariants.{LinkFault, 
 use Rattle.overlay_world.specs.Sendings.{sent_by, HasBytes, with_frames, IsUnheard, IsFrontOf, Halts, IsNone, IsFullAt, IsHeavy}
 use Rattle.overlay_world.proofs.Airs.{same_air, halts_same, halts_wider}
 use Rattle.overlay_world.proofs.Bytes.{acts_some}
-use Rattle.overlay_world.proofs.Frames.{Adds, frames_fated, frames_lost, stepped, adds_handled, adds_flown_at}
+use Rattle.overlay_world.proofs.Frames.{Adds, frames_fated, frames_lost, adds_flown_at}
 
 -- ---- a node that handles something
 

@@ -1,5 +1,5 @@
 -- The frames of a node on their way into an air.
-use Rattle.std.proofs.Common.{◌≡◌, ℕ, ◌+◌, ◌<◌, ◌≤◌, List, [], ◌∷◌, ◌++◌, length, map, take, get_or, drop, refl, sym, ap, subst, ◌∙◌, arith, append_assoc}
+use Rattle.std.proofs.Common.{◌≡◌, ℕ, ◌+◌, ◌<◌, ◌≤◌, List, [], ◌∷◌, ◌++◌, length, map, take, get_or, drop, sym, ap, subst, ◌∙◌, append_assoc}
 use Rattle.std.specs.Prelude.{All}
 use Rattle.std.proofs.lemmas.List.{append-nil, map-append, map-id}
 use Rattle.reload_base.specs.declared.air.AirFrame.{AirFrame}
@@ -12,7 +12,7 @@ use Rattle.run_model.specs.Worlds.{flight_of}
 use Rattle.run_model.specs.Stops.{air_frame}
 use Rattle.overlay_world.specs.declared.fault.StepFault.{StepFault}
 use Rattle.overlay_world.specs.declared.fault.StepFault.TheVariants.{NoMemory}
-use Rattle.overlay_world.specs.Sendings.{sent_by, with_frame, with_frames, IsUnsent, IsFrontOf, Halts, IsNone}
+use Rattle.overlay_world.specs.Sendings.{sent_by, with_frame, with_frames, IsUnsent, Halts, IsNone}
 use Rattle.overlay_world.proofs.Airs.{split_at_turn, halts_since, halts_at_front, unsent_halts}
 
 -- what holds of each item holds of one of them

@@ -1,6 +1,6 @@
 -- What stops an event, in the words of runs.
-use Rattle.std.proofs.Common.{◌≡◌, ℕ, zero, suc, ◌+◌, ◌-◌, ◌<◌, ◌≤◌, List, [], ◌∷◌, ◌++◌, Bool, true, false, cond, length, map, take, refl, sym, ap, subst, ◌∙◌, arith}
-use Rattle.std.specs.Prelude.{Option, Some, None, Result, Ok, Err, IfErr, slice_get}
+use Rattle.std.proofs.Common.{◌≡◌, ℕ, zero, suc, ◌+◌, ◌-◌, List, [], ◌∷◌, ◌++◌, true, false, cond, length, map, take, refl, sym, ap, ◌∙◌, arith}
+use Rattle.std.specs.Prelude.{Some, Result, IfErr, slice_get}
 use Rattle.std.proofs.lemmas.List.{take_at, take-map}
 use Rattle.std.proofs.lemmas.List.Sums.{sum_by-cons}
 use Rattle.std.proofs.lemmas.Option.{same_Some}
@@ -11,7 +11,6 @@ use Rattle.node_messages.specs.Signed.{SignerWords}
 use Rattle.run_model.specs.declared.flight.Flight.{Flight}
 use Rattle.run_model.specs.declared.happening.Happening.TheVariants.{NoSuchFrame}
 use Rattle.run_model.specs.declared.moves.Move.{Move}
-use Rattle.run_model.specs.declared.moves.Move.TheVariants.{Lose}
 use Rattle.run_model.specs.Worlds.{World, Done, quiet, refused, bytes_in}
 use Rattle.run_model.specs.Moves.{is_frame, lost_at, lost, moved}
 use Rattle.run_model.specs.Stops.{air_frame, frames_in, IsNodeFull, IsAirFull}
@@ -36,7 +35,7 @@ flight_there [] k f e = absurd (cc)
 flight_there (x ∷ fs) zero f e = (x, refl, same_Some (air_frame x) f e)
 flight_there (x ∷ fs) (suc k) f e = flight_there fs k f e
 
-size_is : (fs : List Flight) → size_of (map air_frame fs) ≡ bytes_in fs
+pub size_is : (fs : List Flight) → size_of (map air_frame fs) ≡ bytes_in fs
 unfolding size_of bytes_in
 size_is [] = refl
 size_is (f ∷ fs) =

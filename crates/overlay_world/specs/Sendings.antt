@@ -7,7 +7,7 @@ use Rattle.request_words.specs.declared.node.DeclaredNode.{DeclaredNode}
 use Rattle.node_model.specs.declared.limits.TheConstants.{MAX_LOAD}
 use Rattle.node_model.specs.Links.{Sent}
 use Rattle.run_model.specs.declared.limits.TheConstants.{MAX_AIR}
-use Rattle.run_model.specs.Worlds.{World, Actor, flight_of}
+use Rattle.run_model.specs.Worlds.{World, flight_of}
 use Rattle.run_model.specs.Stops.{air_frame, load_of, hearer_at}
 use Rattle.overlay_world.specs.declared.fault.StepFault.{StepFault}
 use Rattle.overlay_world.specs.declared.fault.StepFault.TheVariants.{LinkFault, AirFull, NodeFull, NoMemory}

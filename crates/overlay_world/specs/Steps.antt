@@ -8,7 +8,7 @@ use Rattle.run_model.specs.declared.happening.Happening.{Happening}
 use Rattle.run_model.specs.declared.happening.Happening.TheVariants.{UnknownNode, Busy}
 use Rattle.run_model.specs.declared.moves.Move.{Move}
 use Rattle.run_model.specs.declared.moves.Move.TheVariants.{Clock}
-use Rattle.run_model.specs.Worlds.{World, Actor, APeer, AClient, node_of}
+use Rattle.run_model.specs.Worlds.{World, Actor, AClient, node_of}
 use Rattle.run_model.specs.Moves.{is_asked}
 
 -- the clock stays below 2^62 ms in an event

@@ -1,4 +1,3 @@
-use Rattle.std.proofs.Common.{ap, sym}
 use Rattle.std.proofs.lemmas.Result.{err_from_is_err_and}
 use Rattle.overlay_world.specs.Sendings.{sent_by}
 use Rattle.overlay_world.proofs.Sent.{after_halts}

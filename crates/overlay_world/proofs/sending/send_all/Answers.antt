@@ -3,7 +3,6 @@ use Rattle.std.proofs.lemmas.Iterator.Consumers.{YieldsList-turn, YieldsList-so_
 use Rattle.std.proofs.lemmas.Iterator.Adapters.{YieldsList-from_vec}
 use Rattle.std.proofs.lemmas.List.{map-id}
 use Rattle.std.proofs.lemmas.Result.{err_from_is_err_and}
-use Rattle.node_model.specs.Links.{Sent}
 use Rattle.run_model.specs.declared.flight.Flight.{Flight}
 use Rattle.run_model.specs.Worlds.{flight_of}
 use Rattle.overlay_world.specs.Sendings.{HasBytes, sent_by, with_frames}

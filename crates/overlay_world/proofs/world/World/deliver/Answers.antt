@@ -6,7 +6,7 @@ use Rattle.node_messages.specs.Signed.{words_of}
 use Rattle.run_model.specs.declared.happening.Happening.{Happening}
 use Rattle.run_model.specs.declared.happening.Happening.TheVariants.{NoSuchFrame}
 use Rattle.run_model.specs.declared.moves.Move.TheVariants.{Deliver}
-use Rattle.run_model.specs.Worlds.{World, Done, refused}
+use Rattle.run_model.specs.Worlds.{Done, refused}
 use Rattle.run_model.specs.Moves.{flown_at, delivered}
 use Rattle.run_model.specs.Stops.{frames_in, IsNodeFull}
 use Rattle.overlay_world.proofs.Airs.{same_air, on_ok}

@@ -1,4 +1,4 @@
-use Rattle.std.proofs.Common.{◌≡◌, Some, None, ap, sym, ◌∙◌, arith}
+use Rattle.std.proofs.Common.{sym, ◌∙◌, arith}
 use Rattle.std.proofs.lemmas.Result.{err_from_is_err_and}
 use Rattle.node_messages.specs.Signed.{words_of}
 use Rattle.overlay_world.proofs.Drained.{went_first, went_next, went_all, went_end, went_has, went_halts}

@@ -1,19 +1,17 @@
-use Rattle.std.proofs.Common.{◌≡◌, ◌++◌, List, true, false, map, ap, sym, refl, subst, ◌∙◌, Some, None}
-use Rattle.std.specs.Prelude.{IfErr, OnOk, slice_get, slice_set}
+use Rattle.std.proofs.Common.{◌≡◌, ◌++◌, List, map, ap, sym, refl, subst, ◌∙◌, Some}
+use Rattle.std.specs.Prelude.{IfErr}
 use Rattle.std.specs.Option.{option_copied}
-use Rattle.std.specs.FinMap.{get}
 use Rattle.std.proofs.lemmas.Option.{slice_get_within}
 use Rattle.std.proofs.lemmas.Result.{err_from_is_err_and, on_ok_weaker, IfErr-weaker}
 use Rattle.node_messages.specs.Signed.{words_of}
 use Rattle.node_model.specs.Nodes.{Framed}
 use Rattle.run_model.specs.declared.flight.Flight.{Flight}
 use Rattle.run_model.specs.declared.flight.Fate.TheVariants.{Delivered}
-use Rattle.run_model.specs.Worlds.{World, Done, quiet, flight_of, node_of}
-use Rattle.run_model.specs.Moves.{with_fate, is_waiting, is_hearing, flown_at}
-use Rattle.run_model.specs.Stops.{frames_in, load_of}
+use Rattle.run_model.specs.Worlds.{World, quiet, flight_of}
+use Rattle.run_model.specs.Moves.{with_fate, flown_at}
+use Rattle.run_model.specs.Stops.{frames_in}
 use Rattle.overlay_world.specs.Codes.{world_of}
 use Rattle.overlay_world.specs.Sendings.{sent_by, Halts, IsNone, IsFullAt}
-use Rattle.overlay_world.proofs.Frames.{frames_same, frames_fated}
 use Rattle.overlay_world.proofs.Flown.{actors_after, outputs_of, flown_none, flown_lost, flown_unnamed, frames_unheard, fly_halts, heard_out, nobody, outputs_some, put_halts, quiet_went, out_world, out_happened, out_air, fated_has}
 use Rattle.overlay_world.proofs.world.World.fly.Goals as goal
 

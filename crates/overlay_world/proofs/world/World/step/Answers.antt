@@ -1,6 +1,6 @@
-use Rattle.std.proofs.Common.{◌+◌, refl, ap, sym, ◌∙◌}
+use Rattle.std.proofs.Common.{◌+◌, refl, sym, ◌∙◌}
 use Rattle.node_messages.specs.Signed.{words_of}
-use Rattle.run_model.specs.declared.moves.Move.TheVariants.{Clock, Deliver, Lose, Drain, Ask}
+use Rattle.run_model.specs.declared.moves.Move.TheVariants.{Deliver, Lose, Drain, Ask}
 use Rattle.run_model.specs.Worlds.{World}
 use Rattle.run_model.specs.Moves.{lost}
 use Rattle.run_model.specs.Stops.{frames_in, IsNodeFull}
