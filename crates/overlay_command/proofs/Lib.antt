@@ -2,6 +2,7 @@ pub mod Firsts
 pub mod Fronts
 pub mod Hears
 pub mod Loops
+pub mod NameLaws
 pub mod Nodes
 pub mod Runs
 pub mod Sizes

@@ -3,4 +3,5 @@ pub mod Bounds
 pub mod Desks
 pub mod Due
 pub mod Firsts
+pub mod NameIds
 pub mod Top

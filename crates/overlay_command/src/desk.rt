@@ -10,12 +10,12 @@ ghost use Rattle.overlay_command.specs.Bounds.{IsSteady, IsKept};
 
 use crate::decision::decide;
 use crate::heard::Heard;
+use crate::names::Names;
 use crate::requests::{fetch_of, store_of};
 use kind_store::Shelf;
 use reload_base::{Bytes, List, NoMemory};
 use reload_ids::{NodeId, ResourceId};
 use request_words::{DeclaredNode, ResourceName};
-use scenario_moves::id_of_resource;
 use scenario_text::{Event, EventKind, FetchEvent, Scenario, StoreEvent};
 use std::alloc::Global;
 use storage_model::Asked;
@@ -78,23 +78,24 @@ impl Desk {
     #[tactic(auto, unfolding(crate::specs::Desks::issued_as))]
     fn next(
         &self,
+        names: &mut Names,
         client: &DeclaredNode,
         peer: u32,
         resource: &ResourceName,
         asked: Asked,
-    ) -> Issued
+    ) -> Result<Issued, NoMemory>
         requires client { client.now.number ≤ MAX_NUMBER }
         requires few { length self.now.requests < 2 ^ 32 }
-        ensures { result
-            ≡ issued_as (length self.now.requests + 1) client.now peer resource.now asked }
+        ensures { IfOk result (λ request. request
+            ≡ issued_as (length self.now.requests + 1) client.now peer resource.now asked) }
     {
-        Issued {
+        Ok(Issued {
             peer,
-            resource: id_of_resource(resource),
+            resource: names.id_of(resource)?,
             origin: client.node,
             id: u64::from(client.number) * 4_294_967_296 + self.requests.len() as u64 + 1,
             asked,
-        }
+        })
     }
 
     // A request is issued as the next one.
@@ -112,6 +113,7 @@ impl Desk {
         &mut self,
         alloc: Global,
         scenario: &Scenario,
+        names: &mut Names,
         event: &StoreEvent,
     ) -> Result<(), NoMemory>
         requires scenario { IsScenario scenario.now }
@@ -125,7 +127,7 @@ impl Desk {
             return Ok(());
         };
         let asked = store_of(alloc, &scenario.config, client, event)?;
-        let request = self.next(client, event.peer, &event.resource, asked);
+        let request = self.next(names, client, event.peer, &event.resource, asked)?;
         self.issue(request)
     }
 
@@ -135,6 +137,7 @@ impl Desk {
         &mut self,
         alloc: Global,
         scenario: &Scenario,
+        names: &mut Names,
         event: &FetchEvent,
     ) -> Result<(), NoMemory>
         requires scenario { IsScenario scenario.now }
@@ -147,7 +150,7 @@ impl Desk {
             return Ok(());
         };
         let asked = fetch_of(alloc, &scenario.config, event)?;
-        let request = self.next(client, event.peer, &event.resource, asked);
+        let request = self.next(names, client, event.peer, &event.resource, asked)?;
         self.issue(request)
     }
 
@@ -247,6 +250,7 @@ impl Desk {
         &mut self,
         alloc: Global,
         scenario: &Scenario,
+        names: &mut Names,
         event: &Event,
         out: &mut Bytes,
     ) -> Result<(), NoMemory>
@@ -263,8 +267,8 @@ impl Desk {
                 self.clock += *ms;
                 Ok(())
             }
-            EventKind::Store(store) => self.store(alloc, scenario, store.get()),
-            EventKind::Fetch(fetch) => self.fetch(alloc, scenario, fetch.get()),
+            EventKind::Store(store) => self.store(alloc, scenario, names, store.get()),
+            EventKind::Fetch(fetch) => self.fetch(alloc, scenario, names, fetch.get()),
             EventKind::Deliver(k) => self.deliver(alloc, scenario, event.line, *k, out),
             EventKind::Drain(n) => self.drain(alloc, scenario, *n, out),
         }

@@ -6,6 +6,7 @@ mod decision;
 mod desk;
 mod form;
 mod heard;
+mod names;
 mod requests;
 mod run;
 mod status;

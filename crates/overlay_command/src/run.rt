@@ -10,6 +10,7 @@ ghost use Rattle.overlay_command.specs.Bounds.{IsKept};
 ghost use Rattle.overlay_command.specs.Desks.{stepped, transcript};
 
 use crate::desk::Desk;
+use crate::names::Names;
 use reload_base::{Bytes, Sink, WriteError, write_all};
 use scenario_text::{Event, Scenario, put_echo};
 use std::alloc::Global;
@@ -28,6 +29,7 @@ fn write_echo<K: Sink>(alloc: Global, scenario: &Scenario, sink: &mut K) -> Resu
 fn write_event<K: Sink>(
     alloc: Global,
     scenario: &Scenario,
+    names: &mut Names,
     event: &Event,
     desk: &mut Desk,
     sink: &mut K,
@@ -41,7 +43,7 @@ fn write_event<K: Sink>(
         (stepped scenario.now desk.old event.now.line event.now.what).text result }
 {
     let mut piece = Bytes::new(alloc);
-    desk.step(alloc, scenario, event, &mut piece)?;
+    desk.step(alloc, scenario, names, event, &mut piece)?;
     write_all(sink, piece.as_slice())
 }
 
@@ -63,8 +65,9 @@ pub fn run<K: Sink>(alloc: Global, scenario: &Scenario, sink: &mut K) -> Result<
 {
     write_echo(alloc, scenario, sink)?;
     let mut desk = Desk::new(alloc);
+    let mut names = Names::new(alloc);
     for event in scenario.events.as_slice() {
-        write_event(alloc, scenario, event, &mut desk, sink)?;
+        write_event(alloc, scenario, &mut names, event, &mut desk, sink)?;
     }
     write_end(alloc, &desk, sink)
 }
