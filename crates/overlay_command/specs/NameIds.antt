@@ -1,5 +1,5 @@
 -- The names that were hashed.
-use Rattle.std.specs.Prelude.{◌≡◌, ℕ, List, Some}
+use Rattle.std.specs.Prelude.{◌≡◌, ℕ, List, Option, Some, IfSome}
 use Rattle.std.specs.Ordering.{nat_cmp}
 use Rattle.std.specs.Cmp.Lexicographic.{slice_cmp}
 use Rattle.std.specs.FinMap.{FinMap, get}
@@ -14,3 +14,7 @@ Ids = FinMap (slice_cmp nat_cmp) ResourceId
 abbrev pub AreIds : Ids → Type 0
 AreIds ids =
     (name : List ℕ) (id : ResourceId) → get ids name ≡ Some id → id.0 ≡ resource_id name
+
+-- what is at hand, if anything is, is that of this name
+abbrev pub IsIdOf : List ℕ → Option ResourceId → Type 0
+IsIdOf name found = IfSome found (λ id. id.0 ≡ resource_id name)

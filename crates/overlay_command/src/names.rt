@@ -11,15 +11,19 @@ use request_words::ResourceName;
 use std::alloc::Global;
 use std::marker::Model;
 
-/// The Resource-IDs of the names that were asked for. Contracts see the map.
+/// The Resource-IDs of the names that were asked for, with the last one at hand. Contracts see the
+/// map.
 #[derive(Drop)]
 pub struct Names {
     alloc: Global,
     known: KeyTable<ResourceId>,
+    last: Bytes,
+    /// That of the last name.
+    resource: Option<ResourceId>,
 }
 
 impl Model for Names {
-    ghost use Rattle.overlay_command.specs.NameIds.{Ids, AreIds};
+    ghost use Rattle.overlay_command.specs.NameIds.{Ids, AreIds, IsIdOf};
     ghost use Rattle.std.specs.Coded.{coded_ℕ, coded_list};
     ghost use Rattle.std.specs.FinMap as map;
     ghost use Rattle.reload_ids.specs.contracts.ResourceId as of_resource;
@@ -30,7 +34,7 @@ impl Model for Names {
 
     ghost view = { λ n. n.known };
 
-    ghost invariant = { λ n. AreIds n.known };
+    ghost invariant = { λ n. AreIds n.known × IsIdOf n.last n.resource };
 }
 
 impl Names {
@@ -39,6 +43,8 @@ impl Names {
         Names {
             alloc,
             known: KeyTable::new(alloc),
+            last: Bytes::new(alloc),
+            resource: None,
         }
     }
 
@@ -55,12 +61,37 @@ impl Names {
         Ok(resource)
     }
 
+    // Has a name at hand, and its Resource-ID.
+    fn hold(&mut self, name: &[u8], resource: ResourceId) -> Result<(), NoMemory>
+        requires { resource.0 ≡ resource_id name.now }
+    {
+        self.resource = None;
+        self.last.truncate(0);
+        self.last.extend(name)?;
+        self.resource = Some(resource);
+        Ok(())
+    }
+
+    // The Resource-ID of a name, which is the last one then.
+    fn id_of_name(&mut self, name: &[u8]) -> Result<ResourceId, NoMemory>
+        ensures { IfOk result (λ resource. resource.0 ≡ resource_id name.now) }
+    {
+        match self.resource {
+            Some(resource) if name == self.last.as_slice() => Ok(resource),
+            _ => {
+                let resource = self.hash(name)?;
+                self.hold(name, resource)?;
+                Ok(resource)
+            }
+        }
+    }
+
     /// The Resource-ID that a scenario names.
     pub fn id_of(&mut self, resource: &ResourceName) -> Result<ResourceId, NoMemory>
         ensures { IfOk result (λ id. id.0 ≡ id_of_resource resource.now) }
     {
         match resource {
-            ResourceName::Name(name) => self.hash(name.as_slice()),
+            ResourceName::Name(name) => self.id_of_name(name.as_slice()),
             ResourceName::Id(resource) => Ok(*resource),
         }
     }
