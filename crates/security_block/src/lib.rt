@@ -5,6 +5,7 @@
 mod about;
 mod block;
 mod certificate;
+mod known;
 mod signer;
 mod stand_in;
 

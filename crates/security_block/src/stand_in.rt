@@ -6,9 +6,11 @@ ghost use Rattle.sha2.specs.Sha256.{sha256};
 ghost use Rattle.wire_core.specs.Reading.{Reads};
 ghost use Rattle.security_block.specs.Signers.{IsNamed};
 ghost use Rattle.security_block.specs.Claims.{who_claims};
-ghost use Rattle.security_block.specs.StandIn.{authority_text, key_text, role, claim, tag_of, certificate_for, role_of, role_at, user_at, claim_at, claimed, about_by, value_by, signature_by, identifies, is_signature_by, verifies_by};
+ghost use Rattle.security_block.specs.StandIn.{authority_text, key_text, role, claim, tag_of, certificate_for, role_of, role_at, user_at, claim_at, claimed, about_by, signature_by, identifies, is_signature_by, verifies_by};
+ghost use Rattle.security_block.specs.Known.{AreKeysOf};
 
 use crate::about::{About, MAX_USER};
+use crate::known::{Certificates, Keys};
 use crate::signer::Signer;
 use reload_base::{Bytes, NoMemory};
 use reload_ids::NodeId;
@@ -31,9 +33,12 @@ pub const STAND_IN: u8 = 224;
 pub const TAG: usize = 32;
 
 /// Signs in anyone's name, by hashes alone. It isn't secure: whoever knows its two texts can forge.
-/// A certificate for a user of u bytes has 51 + u bytes, and a signature 73.
-#[derive(Clone, Copy, Debug)]
-pub struct StandIn;
+/// A certificate for a user of u bytes has 51 + u bytes, and a signature 73. Certificates that it
+/// made or looked at are known to it, and hashed once.
+#[derive(Drop)]
+pub struct StandIn {
+    known: Certificates,
+}
 
 /// What a certificate says, lent from its bytes.
 #[derive(Drop)]
@@ -51,7 +56,7 @@ fn authority() -> &'static [u8]
 }
 
 #[tactic(auto, unfolding(crate::specs::StandIn::key_text))]
-fn key() -> &'static [u8]
+pub(crate) fn key() -> &'static [u8]
     ensures { result.now ≡ key_text }
 {
     b"RELOAD stand-in key"
@@ -162,22 +167,6 @@ fn claim_of(certificate: &[u8]) -> Option<Claim<'_>>
     claim_in(said)
 }
 
-/// The value of a certificate's signature over bytes and its own identity.
-#[tactic(auto, unfolding(crate::specs::StandIn::value_by))]
-fn value(certificate: &[u8], bytes: &[u8], fingerprint: &[u8; 32]) -> [u8; 32]
-    requires { fingerprint.now ≡ sha256 certificate.now }
-    ensures { result ≡ value_by certificate.now bytes.now }
-{
-    let mut hasher = Sha256::new();
-    hasher.update(key());
-    hasher.update(certificate);
-    hasher.update(bytes);
-    // The identity: its type, the length of its part, and the hash behind its algorithm and length.
-    hasher.update(&[1u8, 0, 34, SHA_256, 32]);
-    hasher.update(fingerprint);
-    hasher.finalize()
-}
-
 /// Whether an identity is the hash of a certificate with this fingerprint.
 #[tactic(auto, unfolding(crate::specs::StandIn::identifies))]
 fn is_identity(identity: &SignerIdentity, certificate: &[u8], fingerprint: &[u8; 32]) -> bool
@@ -192,22 +181,63 @@ fn is_identity(identity: &SignerIdentity, certificate: &[u8], fingerprint: &[u8;
     }
 }
 
-/// Whether a signature is the one that a certificate makes over bytes.
+/// Whether a signature is the one that a certificate with these keys makes over bytes.
 #[tactic(auto, unfolding(crate::specs::StandIn::is_signature_by))]
-fn is_signature(certificate: &[u8], bytes: &[u8], s: &Signature) -> bool
+fn is_signature(certificate: &[u8], keys: Keys, bytes: &[u8], s: &Signature) -> bool
+    requires { AreKeysOf certificate.now keys }
     ensures { result ≡ is_signature_by certificate.now bytes.now s.now }
 {
-    let fingerprint = Sha256::digest(certificate);
     s.hash == SHA_256
         && s.algorithm == STAND_IN
-        && is_identity(&s.identity, certificate, &fingerprint)
-        && s.value.as_slice() == value(certificate, bytes, &fingerprint).as_slice()
+        && is_identity(&s.identity, certificate, &keys.fingerprint)
+        && s.value.as_slice() == keys.value(bytes).as_slice()
+}
+
+/// Whom a certificate is about, if it is about anyone, by its bytes alone.
+fn look_at(alloc: Global, certificate: &[u8]) -> Result<Option<About>, NoMemory>
+    ensures value { IfOk result (λ who. who ≡ about_by certificate.now) }
+    ensures found { IfOk result
+        (λ found. IfSome found (λ who. IsNamed who × (certificate.now ≡ certificate_for who))) }
+{
+    let Some(claim) = claim_of(certificate) else {
+        return Ok(None);
+    };
+    let user = Bytes::from_slice(alloc, claim.user)?;
+    Ok(Some(About {
+        peer: claim.peer,
+        node: claim.node,
+        user,
+    }))
 }
 
 impl StandIn {
-    /// The stand-in signer, which holds nothing.
-    pub fn new() -> StandIn {
-        StandIn
+    /// The stand-in signer, to which no certificate is known.
+    pub fn new(alloc: Global) -> StandIn {
+        StandIn {
+            known: Certificates::new(alloc),
+        }
+    }
+
+    /// The keys of a certificate, which is known from now on if it is about anyone.
+    fn keys(&self, certificate: &[u8]) -> Keys
+        ensures { AreKeysOf certificate.now result }
+    {
+        if let Some(keys) = self.known.keys_of(certificate) {
+            return keys;
+        }
+        let keys = Keys::of(certificate);
+        let _ = self.keep(certificate, &keys);
+        keys
+    }
+
+    /// Knows a certificate from now on, if it is about anyone.
+    fn keep(&self, certificate: &[u8], keys: &Keys) -> Result<(), NoMemory>
+        requires { AreKeysOf certificate.now keys.now }
+    {
+        match look_at(self.known.alloc(), certificate)? {
+            Some(about) => self.known.keep(certificate, &about, keys),
+            None => Ok(()),
+        }
     }
 }
 
@@ -228,6 +258,9 @@ impl Signer for StandIn {
 
     #[tactic(auto, unfolding(crate::specs::StandIn::certificate_for))]
     fn certificate(&self, alloc: Global, who: &About) -> Result<Bytes, NoMemory> {
+        if let Some(certificate) = self.known.certificate_of(alloc, who) {
+            return certificate;
+        }
         let mut out = Bytes::new(alloc);
         put_claim(&mut out, who)?;
         let tag = tag(out.as_slice());
@@ -237,15 +270,13 @@ impl Signer for StandIn {
 
     #[tactic(auto, unfolding(crate::specs::StandIn::signature_by, crate::specs::StandIn::identity_by))]
     fn sign(&self, alloc: Global, certificate: &[u8], bytes: &[u8]) -> Result<Signature, NoMemory> {
-        let fingerprint = Sha256::digest(certificate);
-        let value = value(certificate, bytes, &fingerprint);
+        let keys = self.keys(certificate);
+        let hash = Bytes::from_slice(alloc, &keys.fingerprint)?;
+        let value = keys.value(bytes);
         Ok(Signature {
             hash: SHA_256,
             algorithm: STAND_IN,
-            identity: SignerIdentity::CertHash {
-                alg: SHA_256,
-                hash: Bytes::from_slice(alloc, &fingerprint)?,
-            },
+            identity: SignerIdentity::CertHash { alg: SHA_256, hash },
             value: Bytes::from_slice(alloc, &value)?,
         })
     }
@@ -256,15 +287,10 @@ impl Signer for StandIn {
         ensures found { IfOk result
             (λ found. IfSome found (λ who. IsNamed who × (certificate.now ≡ certificate_for who))) }
     {
-        let Some(claim) = claim_of(certificate) else {
-            return Ok(None);
-        };
-        let user = Bytes::from_slice(alloc, claim.user)?;
-        Ok(Some(About {
-            peer: claim.peer,
-            node: claim.node,
-            user,
-        }))
+        match self.known.about(alloc, certificate) {
+            Some(who) => Ok(Some(who?)),
+            None => look_at(alloc, certificate),
+        }
     }
 
     #[tactic(auto, unfolding(crate::specs::StandIn::verifies_by))]
@@ -273,6 +299,12 @@ impl Signer for StandIn {
         ensures exact { IsTrue result ↔
             (IsSome (about_by certificate.now) × (s.now ≡ signature_by certificate.now bytes.now)) }
     {
-        claim_of(certificate).is_some() && is_signature(certificate, bytes, s)
+        match self.known.keys_of(certificate) {
+            Some(keys) => is_signature(certificate, keys, bytes, s),
+            None => {
+                claim_of(certificate).is_some()
+                    && is_signature(certificate, self.keys(certificate), bytes, s)
+            }
+        }
     }
 }

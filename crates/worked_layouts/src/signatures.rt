@@ -57,8 +57,9 @@ fn abc(alloc: Global, peer: bool) -> Result<About, NoMemory>
 
 /// The peer's block over `hello`.
 fn block(alloc: Global) -> Result<SecurityBlock, NoMemory> {
-    let body = StandIn::new().certificate(alloc, &abc(alloc, true)?)?;
-    let signature = StandIn::new().sign(alloc, body.as_slice(), b"hello")?;
+    let signer = StandIn::new(alloc);
+    let body = signer.certificate(alloc, &abc(alloc, true)?)?;
+    let signature = signer.sign(alloc, body.as_slice(), b"hello")?;
     let mut certificates = List::new(alloc);
     certificates.push(Certificate { code: 224, body })?;
     Ok(SecurityBlock {
@@ -90,7 +91,7 @@ fn a_block_byte_for_byte(rt: HostRuntime) -> Result<(), Fail> {
 fn is_from_abc(alloc: Global, block: &SecurityBlock) -> Result<bool, NoMemory> {
     let who = signer_of(
         alloc,
-        &StandIn,
+        &StandIn::new(alloc),
         &block.certificates,
         b"hello",
         &block.signature,
@@ -113,7 +114,7 @@ fn a_block_comes_back(rt: HostRuntime) -> Result<(), Fail> {
 
 /// Whether bytes are a certificate.
 fn is_certificate(alloc: Global, bytes: &[u8]) -> Result<bool, NoMemory> {
-    Ok(StandIn::new().about(alloc, bytes)?.is_some())
+    Ok(StandIn::new(alloc).about(alloc, bytes)?.is_some())
 }
 
 /// Whether this is what a certificate says, under a tag that is right for it.
@@ -186,7 +187,7 @@ fn no_other_bytes_are_a_certificate(rt: HostRuntime) -> Result<(), Fail> {
 
 /// The signature over `hello` with one field changed, by its number.
 fn changed(alloc: Global, field: u8) -> Result<Signature, NoMemory> {
-    let mut s = StandIn::new().sign(alloc, certificate(), b"hello")?;
+    let mut s = StandIn::new(alloc).sign(alloc, certificate(), b"hello")?;
     let hash = Bytes::from_slice(alloc, &Sha256::digest(certificate()))?;
     let other = Bytes::from_slice(alloc, &Sha256::digest(b"other"))?;
     match field {
@@ -207,23 +208,24 @@ fn changed(alloc: Global, field: u8) -> Result<Signature, NoMemory> {
     Ok(s)
 }
 
-/// Whether a signature is one of the certificate over bytes.
-fn verifies(bytes: &[u8], s: &Signature) -> bool {
-    StandIn::new().verify(certificate(), bytes, s)
+/// Whether a signature is one of the certificate over bytes, to a signer that may know it.
+fn verifies(signer: &StandIn, bytes: &[u8], s: &Signature) -> bool {
+    signer.verify(certificate(), bytes, s)
 }
 
 #[test]
 fn no_other_signature_verifies(rt: HostRuntime) -> Result<(), Fail> {
+    let signer = StandIn::new(rt.alloc());
     for field in 0..8 {
         let s = changed(rt.alloc(), field)?;
-        assert!(rt; verifies(b"hello", &s) == (field == 7));
+        assert!(rt; verifies(&signer, b"hello", &s) == (field == 7));
     }
     let s = changed(rt.alloc(), 7)?;
-    assert!(rt; !verifies(b"hell", &s));
-    let client = StandIn::new().certificate(rt.alloc(), &abc(rt.alloc(), false)?)?;
-    assert!(rt; !StandIn::new().verify(client.as_slice(), b"hello", &s));
-    let by_nobody = StandIn::new().sign(rt.alloc(), b"nobody", b"hello")?;
-    assert!(rt; !StandIn::new().verify(b"nobody", b"hello", &by_nobody));
+    assert!(rt; !verifies(&signer, b"hell", &s));
+    let client = signer.certificate(rt.alloc(), &abc(rt.alloc(), false)?)?;
+    assert!(rt; !signer.verify(client.as_slice(), b"hello", &s));
+    let by_nobody = signer.sign(rt.alloc(), b"nobody", b"hello")?;
+    assert!(rt; !signer.verify(b"nobody", b"hello", &by_nobody));
     Ok(())
 }
 
@@ -248,15 +250,15 @@ impl Signer for Credulous {
     ghost own_verifies = { λ _ _ _ _ _. refl };
 
     fn certificate(&self, alloc: Global, who: &About) -> Result<Bytes, NoMemory> {
-        StandIn::new().certificate(alloc, who)
+        StandIn::new(alloc).certificate(alloc, who)
     }
 
     fn sign(&self, alloc: Global, certificate: &[u8], bytes: &[u8]) -> Result<Signature, NoMemory> {
-        StandIn::new().sign(alloc, certificate, bytes)
+        StandIn::new(alloc).sign(alloc, certificate, bytes)
     }
 
     fn about(&self, alloc: Global, certificate: &[u8]) -> Result<Option<About>, NoMemory> {
-        StandIn::new().about(alloc, certificate)
+        StandIn::new(alloc).about(alloc, certificate)
     }
 
     fn verify(&self, _certificate: &[u8], _bytes: &[u8], _s: &Signature) -> bool {
@@ -267,7 +269,7 @@ impl Signer for Credulous {
 /// The peer's certificate under another code, the client's, and the peer's.
 fn three_certificates(alloc: Global) -> Result<List<Certificate>, NoMemory> {
     let peer = Bytes::from_slice(alloc, certificate())?;
-    let client = StandIn::new().certificate(alloc, &abc(alloc, false)?)?;
+    let client = StandIn::new(alloc).certificate(alloc, &abc(alloc, false)?)?;
     let mut certificates = List::new(alloc);
     certificates.push(Certificate {
         code: 223,
@@ -299,9 +301,11 @@ fn is_from_a_peer<G: Signer>(
 fn the_first_certificate_that_verifies_counts(rt: HostRuntime) -> Result<(), Fail> {
     let mut certificates = three_certificates(rt.alloc())?;
     assert!(rt; is_from_a_peer(rt.alloc(), &Credulous, &certificates)? == Some(false));
-    assert!(rt; is_from_a_peer(rt.alloc(), &StandIn, &certificates)? == Some(true));
+    assert!(rt;
+        is_from_a_peer(rt.alloc(), &StandIn::new(rt.alloc()), &certificates)? == Some(true)
+    );
     certificates.truncate(2);
-    assert!(rt; is_from_a_peer(rt.alloc(), &StandIn, &certificates)?.is_none());
+    assert!(rt; is_from_a_peer(rt.alloc(), &StandIn::new(rt.alloc()), &certificates)?.is_none());
     Ok(())
 }
 

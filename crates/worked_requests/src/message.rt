@@ -102,7 +102,7 @@ pub(crate) fn made(
     };
     let plan = Plan::new(id, marks);
     let about = plan.asker.about(alloc)?;
-    let signer = StandIn::new();
+    let signer = StandIn::new(alloc);
     let certificate = signer.certificate(alloc, &about)?;
     let contents = Contents {
         body: body(alloc, &plan, resource, certificate.as_slice(), asking)?,

@@ -76,7 +76,7 @@ fn question_behind(
     let Ok(code) = Cursor::new(behind, 0).take_u16() else {
         return Ok(None);
     };
-    let signer = StandIn::new();
+    let signer = StandIn::new(alloc);
     let behind = read_request(alloc, config, &signer, header, code, behind)?;
     let origin = origin_of(&behind);
     let asked = asked_in(alloc, config, &signer, resource, header, behind)?;

@@ -50,7 +50,7 @@ impl ValueSigner<'_> {
             return Ok(stored);
         }
         let bytes = signed_bytes(alloc, self.resource, kind, &stored)?;
-        let signature = StandIn::new().sign(alloc, certificate, bytes.as_slice())?;
+        let signature = StandIn::new(alloc).sign(alloc, certificate, bytes.as_slice())?;
         Ok(StoredData {
             signature,
             ..stored

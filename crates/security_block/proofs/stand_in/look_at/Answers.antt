@@ -2,7 +2,7 @@ use Rattle.std.proofs.Common.{◌≡◌, ℕ, ◌≤◌, List, length, sym, subs
 use Rattle.security_block.specs.Claims.{who_claims}
 use Rattle.security_block.specs.StandIn.{certificate_for}
 use Rattle.security_block.proofs.StandInExact.{about_by-is}
-use Rattle.security_block.proofs.stand_in.StandInSigner.about.Goals as goal
+use Rattle.security_block.proofs.stand_in.look_at.Goals as goal
 
 pub returns-clause-found : goal.returns-clause-found
 returns-clause-found c =
