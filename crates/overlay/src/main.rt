@@ -1,8 +1,10 @@
-//! The program: the words of its call, standard input and standard output, handed to the top call.
+//! The program: the words of its call, standard input and standard output, an air in memory and the
+//! stand-in signer, handed to the top call.
 #![tactic(auto)]
 
 use overlay_command::{Status, overlay};
-use reload_base::{StdSink, StdSource};
+use reload_base::{MemoryAir, StdSink, StdSource};
+use security_block::StandIn;
 use std::alloc::AllocError;
 use std::env::{Env, FillError};
 use std::process::ExitCode;
@@ -37,14 +39,16 @@ fn words<R: Env + AllocGlobal>(rt: &R) -> Result<Vec<String>, AllocError> {
 }
 
 fn main(rt: HostRuntime) -> ExitCode {
-    let status = match words(&rt) {
-        Ok(words) => overlay(
+    let status = match (words(&rt), MemoryAir::new(rt.alloc(), &[])) {
+        (Ok(words), Ok(mut air)) => overlay(
             rt.alloc(),
             &words,
             &mut StdSource::new(rt.stdin()),
             &mut StdSink::new(rt.stdout()),
+            &mut air,
+            &StandIn::new(rt.alloc()),
         ),
-        Err(AllocError) => Status::NoMemory,
+        _ => Status::NoMemory,
     };
     ExitCode::from(status.code())
 }

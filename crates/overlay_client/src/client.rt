@@ -18,6 +18,18 @@ use std::marker::Model;
 use transaction_table::Table;
 
 /// A client: what it has as a node, its transactions, and by transaction id what each asks for.
+///
+/// ```text
+///  told to ask ──▶ 64 are outstanding? ──yes──▶ nothing
+///                         │ no
+///                         ▼
+///                   outstanding ──▶ its answer, from the peer that was asked, with its id, signed
+///                         ▲   │     by a peer, of a body that answers the question ──▶ told, ended
+///                         └───┘
+///                    any other message
+/// ```
+///
+/// It drops every request, and passes answers on as every node does.
 #[derive(Debug, Drop)]
 pub struct Client {
     pub(crate) node: Node,

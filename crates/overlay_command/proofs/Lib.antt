@@ -1,9 +1,3 @@
-pub mod Firsts
-pub mod Fronts
-pub mod Hears
-pub mod Loops
-pub mod NameLaws
-pub mod Nodes
-pub mod Runs
-pub mod Sizes
+pub mod Endings
+pub mod Told
 pub mod Tops

@@ -1,28 +1,22 @@
--- What a status says of what was read and written.
-use Rattle.std.proofs.Common.{◌≡◌, ◌↔◌, ℕ, List, [], ◌∷◌, length, get_or, Option, Some, None, String, Bool, IsTrue, Result, Ok, Err, refl, ap, sym, ◌∙◌, inl, inr, arith}
-use Rattle.std.specs.Prelude.{map, string_bytes, IfOk}
+-- What a status says of what was read, written and sent.
+use Rattle.std.proofs.Common.{◌≡◌, ℕ, List, [], ◌∷◌, length, get_or, String, Bool, IsTrue, Result, Ok, Err, refl, ap, sym, ◌∙◌, inl, inr, arith}
+use Rattle.std.specs.Prelude.{map, string_bytes}
 use Rattle.std.specs.Global.{Global}
 use Rattle.std.specs.Str.{bytes_eq}
 use Rattle.std.proofs.lemmas.Slice.Eq.{bytes_eq-Decides}
-use Rattle.reload_base.specs.Outside.{SourceView, SinkView, Adds}
-use Rattle.reload_base.specs.Whole.{ReadsAll, StopsWriting, WritesAll}
+use Rattle.reload_base.specs.Whole.{ReadsAll}
 use Rattle.reload_base.specs.declared.reading.TheConstants.{MAX_INPUT}
 use Rattle.reload_base.specs.declared.writing.WriteError.{WriteError}
 use Rattle.reload_base.specs.declared.writing.WriteError.TheVariants as write_error
-use Rattle.scenario_text.specs.declared.scenario.Scenario.{Scenario}
-use Rattle.scenario_text.specs.Scenarios.{IsTextOf}
-use Rattle.scenario_text.proofs.TextLaws.{reading-again}
+use Rattle.node_messages.specs.Signed.{SignerWords}
+use Rattle.scenario_run.specs.Outcomes.{Outlets}
 use Rattle.overlay_command.specs.declared.status.Status.{Status}
-use Rattle.overlay_command.specs.declared.status.Status.TheVariants.{Done, Usage, ReadFault, WriteFault, NoMemory, BadLine, TooLong, BadBytes}
+use Rattle.overlay_command.specs.declared.status.Status.TheVariants.{Done, Usage, ReadFault, WriteFault, NoMemory, BadLine, TooLong, LinkFault, AirFull, BadBytes, NodeFull}
 use Rattle.overlay_command.specs.declared.form.Form.{Form}
-use Rattle.overlay_command.specs.declared.form.Form.TheVariants.{Run, Show}
-use Rattle.wire_core.specs.declared.bad.Bad.{Bad}
-use Rattle.frame_listing.specs.Listing.{IsWhole, IsListing}
-use Rattle.overlay_command.specs.Desks.{transcript}
+use Rattle.overlay_command.specs.declared.form.Form.TheVariants.{Run, Trace, Show}
 use Rattle.overlay_command.specs.Due.{IsDue}
 use Rattle.overlay_command.specs.Top.{Outside, HasForm, IsDueFor, Ends}
-use Rattle.overlay_command.specs.Answers.{AnswersInput, status_of, listed}
-use Rattle.overlay_command.proofs.Runs.{run_is_sound}
+use Rattle.overlay_command.specs.Answers.{Tells, AnswersInput, TellsStatus, status_of}
 
 -- one element is the whole list
 only_one : {X : Type 0} (xs : List X) (x : X) → length xs ≡ 1 → x ≡ get_or xs 0 x → xs ≡ x ∷ []
@@ -36,93 +30,71 @@ one_word words x b seen fixed one is test same holds =
     let decides = bytes_eq-Decides seen fixed in
     rw (only_one words x one is) (ap (λ (word : List ℕ). word ∷ []) (sym same ∙ decides.0 (sym test ∙ holds)))
 
--- a text is of one scenario at most
-one_scenario : (text : List ℕ) (s other : Scenario) → IsTextOf text s → IsTextOf text other → other ≡ s
-one_scenario text s other is also =
-    let same : ◌≡◌ {A = Result Scenario ℕ} (Ok other) (Ok s) = sym (reading-again text other also) ∙ reading-again text s is in
-    cc
+-- nothing is due for an input under the statuses of other causes
+record IsNoCause (signer : SignerWords) (form : Form) (input last : List ℕ) (before so_far : Outlets) : Type 0 where
+  usage : IsDue signer form input before so_far Usage last → ⊥
+  read : IsDue signer form input before so_far ReadFault last → ⊥
+  write : IsDue signer form input before so_far WriteFault last → ⊥
+  memory : IsDue signer form input before so_far NoMemory last → ⊥
+  long : IsDue signer form input before so_far TooLong last → ⊥
 
--- the transcript of a scenario is due for its text
-pub run_due : (text : List ℕ) (s : Scenario) → IsTextOf text s → IsDue Run text Done (transcript s)
-run_due text s is =
-    let run = run_is_sound s is.scenario in (
-      s,
-      record {
-        spells = is;
-        only = λ other also. one_scenario text s other is also;
-        written = refl;
-        legal = run.legal;
-        once = run.once;
-        in_time = run.in_time;
-        gives = run.gives;
-        gives_then = run.gives_then;
-        permitted = run.permitted;
-      },
-    )
+no_cause : (signer : SignerWords) (form : Form) (input last : List ℕ) (before so_far : Outlets) → IsNoCause signer form input last before so_far
+no_cause signer Run input last before so_far = record { usage = λ is. is; read = λ is. is; write = λ is. is; memory = λ is. is; long = λ is. is }
+no_cause signer Trace input last before so_far = record { usage = λ is. is; read = λ is. is; write = λ is. is; memory = λ is. is; long = λ is. is }
+no_cause signer Show input last before so_far = record { usage = λ is. is; read = λ is. is; write = λ is. is; memory = λ is. is; long = λ is. is }
 
--- the listing of a stream is due
-pub listing_due : (bytes text : List ℕ) (fault : Option Bad) → IsListing bytes text fault → ((fault ≡ None) ↔ IsWhole bytes) → IsDue Show bytes (listed fault) text
-listing_due bytes text None is whole = (whole.0 refl, is)
-listing_due bytes text (Some fault) is whole = (λ w. absurd (let e = whole.1 w in cc), fault, is)
+-- the last text was told
+ends_whole : (signer : SignerWords) (words : List (String Global)) (before so_far after : Outside) (status : Status) (last : List ℕ) → IsDueFor signer words before so_far status last → after.source ≡ so_far.source → Tells so_far.outlets after.outlets last → Ends signer words before after status
+ends_whole signer words before so_far after Done last due source tells = (so_far, last, due, source, tells)
+ends_whole signer words before so_far after Usage last due source tells = (so_far, last, due, source, tells)
+ends_whole signer words before so_far after BadLine last due source tells = (so_far, last, due, source, tells)
+ends_whole signer words before so_far after TooLong last due source tells = (so_far, last, due, source, tells)
+ends_whole signer words before so_far after LinkFault last due source tells = (so_far, last, due, source, tells)
+ends_whole signer words before so_far after AirFull last due source tells = (so_far, last, due, source, tells)
+ends_whole signer words before so_far after BadBytes last due source tells = (so_far, last, due, source, tells)
+ends_whole signer words before so_far after NodeFull last due source tells = (so_far, last, due, source, tells)
+ends_whole signer words before so_far after ReadFault last due source tells = absurd ((no_cause signer due.0 due.2 last before.outlets so_far.outlets).read due.4)
+ends_whole signer words before so_far after WriteFault last due source tells = absurd ((no_cause signer due.0 due.2 last before.outlets so_far.outlets).write due.4)
+ends_whole signer words before so_far after NoMemory last due source tells = absurd ((no_cause signer due.0 due.2 last before.outlets so_far.outlets).memory due.4)
 
--- lines that are due for an input were told, or a front of them
-pub input_told : (form : Form) (input due : List ℕ) (status : Status) (old new : SinkView) (told : Result Status WriteError) → IsDue form input status due → WritesAll old new due told → IfOk told (λ s. s ≡ status) → AnswersInput form input old new told
-input_told form input due status old new (Ok s) is writes same = rw same (due, is, writes)
-input_told form input due status old new (Err write_error.Failed) is writes same = (status, due, is, writes)
-input_told form input due status old new (Err write_error.NoMemory) is writes same = inl (status, due, is, writes)
-
--- a run stopped in the transcript that is due for its text
-pub run_stopped : (text : List ℕ) (s : Scenario) (old new : SinkView) (error : WriteError) → IsTextOf text s → StopsWriting old new (transcript s) error → AnswersInput Run text old new (Err error)
-run_stopped text s old new write_error.Failed is stops = (Done, transcript s, run_due text s is, stops)
-run_stopped text s old new write_error.NoMemory is stops = inl (Done, transcript s, run_due text s is, stops)
-
--- no text is due for an input under the statuses of other causes
-record IsNoCause (form : Form) (input due : List ℕ) : Type 0 where
-  usage : IsDue form input Usage due → ⊥
-  read : IsDue form input ReadFault due → ⊥
-  write : IsDue form input WriteFault due → ⊥
-  memory : IsDue form input NoMemory due → ⊥
-  long : IsDue form input TooLong due → ⊥
-
-no_cause : (form : Form) (input due : List ℕ) → IsNoCause form input due
-no_cause Run input due = record { usage = λ is. is; read = λ is. is; write = λ is. is; memory = λ is. is; long = λ is. is }
-no_cause Show input due = record { usage = λ is. is; read = λ is. is; write = λ is. is; memory = λ is. is; long = λ is. is }
-
--- what is due was written whole
-ends_whole : (words : List (String Global)) (before after : Outside) (status : Status) (due : List ℕ) → IsDueFor words before.source after.source status due → Adds before.sink after.sink due → Ends words before after status
-ends_whole words before after Done due is adds = (due, is, adds)
-ends_whole words before after Usage due is adds = (due, is, adds)
-ends_whole words before after BadLine due is adds = (due, is, adds)
-ends_whole words before after TooLong due is adds = (due, is, adds)
-ends_whole words before after BadBytes due is adds = (due, is, adds)
-ends_whole words before after ReadFault due is adds = absurd ((no_cause is.0 is.2 due).read is.4)
-ends_whole words before after WriteFault due is adds = absurd ((no_cause is.0 is.2 due).write is.4)
-ends_whole words before after NoMemory due is adds = absurd ((no_cause is.0 is.2 due).memory is.4)
-
--- the lines that are due were told, or a front of them
-pub ends_told : (words : List (String Global)) (before after : Outside) (status : Status) (due : List ℕ) (told : Result Status WriteError) → IsDueFor words before.source after.source status due → WritesAll before.sink after.sink due told → IfOk told (λ s. s ≡ status) → Ends words before after (status_of told)
-ends_told words before after status due (Ok s) is writes same = rw same (ends_whole words before after status due is writes)
-ends_told words before after status due (Err write_error.Failed) is writes same = (status, due, is, writes)
-ends_told words before after status due (Err write_error.NoMemory) is writes same = inl (status, due, is, writes)
+-- a last text that is due was told, or a front of it
+pub ends_told : (signer : SignerWords) (words : List (String Global)) (before so_far after : Outside) (status : Status) (last : List ℕ) (told : Result Status WriteError) → IsDueFor signer words before so_far status last → after.source ≡ so_far.source
+    → TellsStatus so_far.outlets.sink after.outlets.sink last status told → after.outlets.air ≡ so_far.outlets.air → Ends signer words before after (status_of told)
+ends_told signer words before so_far after status last (Ok s) due source tells air = rw tells.1 (ends_whole signer words before so_far after status last due source (tells.0, air))
+ends_told signer words before so_far after status last (Err write_error.Failed) due source tells air = inl (status, so_far, last, due, source, (tells.0, air))
+ends_told signer words before so_far after status last (Err write_error.NoMemory) due source tells air = inl (status, so_far, last, due, source, (tells.0, air))
 
 -- what is due for an input is due for the words of its form
-input_due : (words : List (String Global)) (old new : SourceView) (form : Form) (input : List ℕ) (status : Status) (due : List ℕ) → HasForm form words → ReadsAll MAX_INPUT old new (Ok input) → IsDue form input status due → IsDueFor words old new status due
-input_due words old new form input Usage due has reads is = absurd ((no_cause form input due).usage is)
-input_due words old new form input TooLong due has reads is = absurd ((no_cause form input due).long is)
-input_due words old new form input Done due has reads is = (form, has, input, reads, is)
-input_due words old new form input ReadFault due has reads is = (form, has, input, reads, is)
-input_due words old new form input WriteFault due has reads is = (form, has, input, reads, is)
-input_due words old new form input NoMemory due has reads is = (form, has, input, reads, is)
-input_due words old new form input BadLine due has reads is = (form, has, input, reads, is)
-input_due words old new form input BadBytes due has reads is = (form, has, input, reads, is)
+input_due : (signer : SignerWords) (words : List (String Global)) (before so_far : Outside) (form : Form) (input : List ℕ) (status : Status) (last : List ℕ) → HasForm form words → ReadsAll MAX_INPUT before.source so_far.source (Ok input)
+    → IsDue signer form input before.outlets so_far.outlets status last → IsDueFor signer words before so_far status last
+input_due signer words before so_far form input Usage last has reads is = absurd ((no_cause signer form input last before.outlets so_far.outlets).usage is)
+input_due signer words before so_far form input TooLong last has reads is = absurd ((no_cause signer form input last before.outlets so_far.outlets).long is)
+input_due signer words before so_far form input Done last has reads is = (form, has, input, reads, is)
+input_due signer words before so_far form input ReadFault last has reads is = (form, has, input, reads, is)
+input_due signer words before so_far form input WriteFault last has reads is = (form, has, input, reads, is)
+input_due signer words before so_far form input NoMemory last has reads is = (form, has, input, reads, is)
+input_due signer words before so_far form input BadLine last has reads is = (form, has, input, reads, is)
+input_due signer words before so_far form input LinkFault last has reads is = (form, has, input, reads, is)
+input_due signer words before so_far form input AirFull last has reads is = (form, has, input, reads, is)
+input_due signer words before so_far form input BadBytes last has reads is = (form, has, input, reads, is)
+input_due signer words before so_far form input NodeFull last has reads is = (form, has, input, reads, is)
 
 -- an input was answered, or memory was missing before anything was due
-pub ends_input : (words : List (String Global)) (before after : Outside) (form : Form) (input : List ℕ) (told : Result Status WriteError) → HasForm form words → ReadsAll MAX_INPUT before.source after.source (Ok input) → AnswersInput form input before.sink after.sink told → Ends words before after (status_of told)
-ends_input words before after form input (Ok status) has reads told = ends_whole words before after status told.0 (input_due words before.source after.source form input status told.0 has reads told.1) told.2
-ends_input words before after form input (Err write_error.Failed) has reads told =
-    (told.0, told.1, input_due words before.source after.source form input told.0 told.1 has reads told.2, told.3)
-ends_input words before after form input (Err write_error.NoMemory) has reads told =
+pub ends_input : (signer : SignerWords) (words : List (String Global)) (before after : Outside) (form : Form) (input : List ℕ) (told : Result Status WriteError) → HasForm form words → ReadsAll MAX_INPUT before.source after.source (Ok input)
+    → AnswersInput signer form input before.outlets after.outlets told → Ends signer words before after (status_of told)
+ends_input signer words before after form input (Ok status) has reads told =
+    let so_far : Outside = record { source = after.source; outlets = told.0 } in
+    ends_whole signer words before so_far after status told.1 (input_due signer words before so_far form input status told.1 has reads told.2) refl told.3
+ends_input signer words before after form input (Err write_error.Failed) has reads told =
     elim told [
-      | inl front ↦ inl (front.0, front.1, input_due words before.source after.source form input front.0 front.1 has reads front.2, front.3)
-      | inr same ↦ inr ((form, has), (input, reads.0, reads.1), same)
+      | inl cut ↦ inl (cut.0, record { source = after.source; outlets = cut.1 }, cut.2, input_due signer words before (record { source = after.source; outlets = cut.1 }) form input cut.0 cut.2 has reads cut.3, refl, cut.4)
+      | inr stopped ↦ inr (form, has, input, reads, stopped)
+    ]
+ends_input signer words before after form input (Err write_error.NoMemory) has reads told =
+    elim told [
+      | inl stops ↦ elim stops [
+        | inl cut ↦ inl (cut.0, record { source = after.source; outlets = cut.1 }, cut.2, input_due signer words before (record { source = after.source; outlets = cut.1 }) form input cut.0 cut.2 has reads cut.3, refl, cut.4)
+        | inr stopped ↦ inr (inl (form, has, input, reads, stopped))
+      ]
+      | inr same ↦ inr (inr ((form, has), (input, reads.0, reads.1), same))
     ]

@@ -8,6 +8,8 @@ ghost use Rattle.overlay_command.specs.Top.{HasForm, IsCommand};
 pub enum Form {
     /// `run`: runs the scenario of a text.
     Run,
+    /// `trace`: the same, and writes its frames too.
+    Trace,
     /// `show`: lists a stream of frames.
     Show,
 }
@@ -19,6 +21,7 @@ pub(crate) fn form_of(words: &[String]) -> Option<Form>
 {
     match words {
         [word] if word.as_str() == "run" => Some(Form::Run),
+        [word] if word.as_str() == "trace" => Some(Form::Trace),
         [word] if word.as_str() == "show" => Some(Form::Show),
         _ => None,
     }

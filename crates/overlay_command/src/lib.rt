@@ -1,15 +1,11 @@
-//! The top call: words, a source and a sink in, a status out.
+//! The top call: words, a source, a sink, an air and a signer in, a status out.
 #![tactic(auto)]
 
 mod command;
-mod decision;
-mod desk;
 mod form;
-mod heard;
-mod names;
-mod requests;
 mod run;
 mod status;
+mod tell;
 
 pub use command::overlay;
 pub use status::Status;

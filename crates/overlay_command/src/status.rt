@@ -19,8 +19,16 @@ pub enum Status {
     BadLine,
     /// More than `MAX_INPUT` bytes were read.
     TooLong,
+    /// The air failed to send a frame. The lines of the events before stand.
+    LinkFault,
+    /// The next frame would bring the air over `MAX_AIR` bytes. The lines of the events before
+    /// stand.
+    AirFull,
     /// The stream isn't whole frames of whole messages.
     BadBytes,
+    /// A node that is to handle something has a load of `MAX_LOAD` or more. The lines of the events
+    /// before stand.
+    NodeFull,
 }
 
 impl Status {
@@ -28,7 +36,7 @@ impl Status {
     ghost use Rattle.overlay_command.specs.Answers.{status_of};
     ghost use Rattle.overlay_command.specs.Top.{exit_status};
 
-    /// The status of a call: that which its last line tells, or that of the write that stopped.
+    /// The status of a call: that which its last text tells, or that of the write that stopped.
     pub(crate) fn of(told: Result<Status, WriteError>) -> Status
         ensures { result ≡ status_of told }
     {
@@ -51,7 +59,10 @@ impl Status {
             Status::NoMemory => 5,
             Status::BadLine => 6,
             Status::TooLong => 7,
+            Status::LinkFault => 8,
+            Status::AirFull => 9,
             Status::BadBytes => 10,
+            Status::NodeFull => 12,
         }
     }
 }

@@ -16,7 +16,7 @@ use Rattle.request_words.specs.declared.resource.ResourceName.TheVariants.{Name,
 use Rattle.request_words.specs.declared.data.Data.{Data}
 use Rattle.request_words.specs.declared.data.Data.TheVariants.{Nonexistent, Bytes, Fill}
 use Rattle.scenario_text.specs.declared.scenario.EventKind.{EventKind}
-use Rattle.scenario_text.specs.declared.scenario.EventKind.TheVariants.{Clock, Store, Fetch, Deliver, Drain}
+use Rattle.scenario_text.specs.declared.scenario.EventKind.TheVariants.{Clock, Deliver, Lose, Drain, Store, Fetch}
 use Rattle.scenario_text.specs.declared.scenario.StoreEvent.{StoreEvent}
 use Rattle.scenario_text.specs.declared.scenario.FetchEvent.{FetchEvent}
 use Rattle.node_model.specs.declared.command.StoreCommand.{StoreCommand}
@@ -109,6 +109,7 @@ fetch_command e = record {
 abbrev pub move_of : EventKind → Move
 move_of (Clock ms) = moves.Clock ms
 move_of (Deliver k) = moves.Deliver k
+move_of (Lose k) = moves.Lose k
 move_of (Drain n) = moves.Drain n
 move_of (Store e) = moves.Ask e.client e.peer (commands.Store (store_command e))
 move_of (Fetch e) = moves.Ask e.client e.peer (commands.Fetch (fetch_command e))

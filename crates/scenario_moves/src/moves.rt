@@ -18,6 +18,7 @@ pub fn move_of(alloc: Global, event: &EventKind) -> Result<Move, NoMemory>
     match event {
         EventKind::Clock(ms) => Ok(Move::Clock(*ms)),
         EventKind::Deliver(k) => Ok(Move::Deliver(*k)),
+        EventKind::Lose(k) => Ok(Move::Lose(*k)),
         EventKind::Drain(n) => Ok(Move::Drain(*n)),
         EventKind::Store(store) => move_of_store(alloc, store.get()),
         EventKind::Fetch(fetch) => move_of_fetch(alloc, fetch.get()),

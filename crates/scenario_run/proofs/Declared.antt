@@ -4,14 +4,12 @@ use Rattle.std.specs.List.{flat_map, AllByRecursion}
 use Rattle.std.proofs.lemmas.Bool.{and_parts, eq-eqb}
 use Rattle.std.proofs.lemmas.List.Elements.{All-nil, All-cons}
 use Rattle.request_words.specs.declared.node.DeclaredNode.{DeclaredNode}
-use Rattle.request_words.specs.declared.node.Role.TheVariants.{Peer}
-use Rattle.request_words.specs.Nodes.{is_role}
 use Rattle.scenario_text.specs.declared.scenario.Scenario.{Scenario}
 use Rattle.scenario_text.specs.declared.saying.Declaration.{Declaration}
 use Rattle.scenario_text.specs.declared.saying.Declaration.TheVariants.{Kind, Node}
 use Rattle.scenario_text.specs.Sayings.{IsDeclaration}
 use Rattle.scenario_text.specs.Lines.Node.{IsNode}
-use Rattle.scenario_text.specs.Desk.{are_apart}
+use Rattle.scenario_text.specs.Declaring.{are_apart}
 use Rattle.scenario_text.specs.Scenarios.{node_in, IsScenario, AreApart}
 use Rattle.run_model.specs.Worlds as model
 use Rattle.overlay_world.specs.Declarations.{IsDeclared, AreDeclared}
@@ -44,9 +42,7 @@ differ a b e same = let one : eqb a b ≡ true = eq-eqb a b (sym same) in let no
 apart_of : (n o : DeclaredNode) → are_apart n o ≡ true → (o.number ≢ n.number) × (o.node.0 ≢ n.node.0)
 unfolding are_apart
 apart_of n o e =
-    let others : Bool = not (is_role Peer n.role && is_role Peer o.role) in
-    let both = and_parts (not (eqb n.number o.number) && not (eqb n.node.0 o.node.0)) others e in
-    let each = and_parts (not (eqb n.number o.number)) (not (eqb n.node.0 o.node.0)) both.0 in
+    let each = and_parts (not (eqb n.number o.number)) (not (eqb n.node.0 o.node.0)) e in
     (differ n.number o.number each.0, differ n.node.0 o.node.0 each.1)
 
 all_apart_of : (n : DeclaredNode) (nodes : List DeclaredNode) → AllByRecursion (λ o. are_apart n o ≡ true) nodes → AllByRecursion (λ (o : DeclaredNode). (o.number ≢ n.number) × (o.node.0 ≢ n.node.0)) nodes

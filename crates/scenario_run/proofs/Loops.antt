@@ -20,7 +20,7 @@ use Rattle.scenario_text.specs.declared.lines.clock.TheConstants.{MAX_CLOCK}
 use Rattle.scenario_text.specs.declared.scenario.Scenario.{Scenario}
 use Rattle.scenario_text.specs.declared.scenario.Event as said
 use Rattle.scenario_text.specs.declared.scenario.EventKind.{EventKind}
-use Rattle.scenario_text.specs.declared.scenario.EventKind.TheVariants.{Clock, Deliver, Drain, Store, Fetch}
+use Rattle.scenario_text.specs.declared.scenario.EventKind.TheVariants.{Clock, Deliver, Lose, Drain, Store, Fetch}
 use Rattle.scenario_text.specs.Sayings.{IsEvent}
 use Rattle.scenario_text.specs.Scenarios.{IsScenario, IsEventOf}
 use Rattle.scenario_text.specs.Echo.{echo}
@@ -109,19 +109,20 @@ starts signer traced s items w before after is empty same adds = record {
 -- ---- an event
 
 -- each event of a scenario is within its limits
-event_in : (s : Scenario) (es : List said.Event) (i : ℕ) (e : said.Event) → AllByRecursion (IsEventOf s.config s.nodes) es → i < length es → IsEvent (get_or es i e).what
+event_in : (s : Scenario) (es : List said.Event) (i : ℕ) (e : said.Event) → AllByRecursion (IsEventOf s.nodes) es → i < length es → IsEvent (get_or es i e).what
 event_in s [] i e all within = absurd (omega arith)
 event_in s (x ∷ es) zero e all within = all.0.0
 event_in s (x ∷ es) (suc i) e all within = event_in s es i e all.1 (omega arith)
 
 event_at : (s : Scenario) (items : List said.Event) (i : ℕ) (e : said.Event) → IsScenario s → items ≡ s.events → i < length items → e ≡ get_or items i e → IsEvent e.what
 event_at s items i e is same within at =
-    let all = subst (λ (es : List said.Event). AllByRecursion (IsEventOf s.config s.nodes) es) (sym same) is.begun.events in
+    let all = subst (λ (es : List said.Event). AllByRecursion (IsEventOf s.nodes) es) (sym same) is.begun.events in
     subst (λ (x : said.Event). IsEvent x.what) (sym at) (event_in s items i e all within)
 
 slow : (what : EventKind) → IsEvent what → IsSlow MAX_CLOCK (move_of what)
 slow (Clock ms) is = is.1
 slow (Deliver k) is = tt
+slow (Lose k) is = tt
 slow (Drain n) is = tt
 slow (Store e) is = tt
 slow (Fetch e) is = tt
@@ -129,6 +130,7 @@ slow (Fetch e) is = tt
 timely : (what : EventKind) (w : World) (i : ℕ) → IsEvent what → i < 2 ^ 31 → w.clock ≤ MAX_CLOCK * i → IsInTime (move_of what) w
 timely (Clock ms) w i is few clock = omega (arith, is.1)
 timely (Deliver k) w i is few clock = tt
+timely (Lose k) w i is few clock = tt
 timely (Drain n) w i is few clock = tt
 timely (Store e) w i is few clock = tt
 timely (Fetch e) w i is few clock = tt

@@ -9,7 +9,7 @@ use Rattle.text_words.specs.Separator.{Lacks}
 use Rattle.text_words.proofs.SeparatorLaws.{Lacks-nil}
 use Rattle.text_words.proofs.LinesLaws.{lines_of-line, lines_of-lacks, lines_of-only}
 use Rattle.scenario_text.specs.declared.scenario.Scenario.{Scenario}
-use Rattle.scenario_text.specs.Desk.{has_peer}
+use Rattle.scenario_text.specs.Declaring.{has_peer}
 use Rattle.scenario_text.specs.Scenarios.{IsTextOf, Begin, IsFirstBad}
 use Rattle.scenario_text.specs.Reading.{line_at, next_or_bad, reading_from, scenario_of, whole_or_bad, reading_on, reading}
 use Rattle.scenario_text.proofs.TextLaws.{read-begins, begun-read, reading-again}

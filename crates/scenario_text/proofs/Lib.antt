@@ -1,7 +1,7 @@
 pub mod BadLineLaws
 pub mod Chains
 pub mod DeclarationLaws
-pub mod DeskLaws
+pub mod DeclaringLaws
 pub mod EventLaws
 pub mod ReadLaws
 pub mod ReadingLines

@@ -15,7 +15,7 @@ use Rattle.request_words.specs.declared.node.DeclaredNode.{DeclaredNode}
 use Rattle.request_words.specs.declared.node.Role.{Role}
 use Rattle.request_words.specs.declared.node.Role.TheVariants.{Peer, Client, Hostile}
 use Rattle.scenario_text.specs.declared.scenario.EventKind.{EventKind}
-use Rattle.scenario_text.specs.declared.scenario.EventKind.TheVariants.{Clock, Deliver, Drain, Store, Fetch}
+use Rattle.scenario_text.specs.declared.scenario.EventKind.TheVariants.{Clock, Deliver, Lose, Drain, Store, Fetch}
 use Rattle.scenario_text.specs.declared.saying.Declaration.{Declaration}
 use Rattle.scenario_text.specs.declared.saying.Declaration.TheVariants.{Kind, Node}
 use Rattle.scenario_text.specs.declared.saying.Saying.{Saying}
@@ -27,7 +27,7 @@ use Rattle.scenario_text.specs.Forms as all
 use Rattle.scenario_text.specs.Lines.Node.{node_of, node_words, IsNode}
 use Rattle.scenario_text.specs.Sayings.{role_text, declaration_words, event_words, saying_words, IsRole, IsDeclaration, IsEvent, IsSaying, said_node, saying_in, saying_of}
 use Rattle.scenario_text.proofs.DeclarationLaws.{overlay_codec, kind_codec, kind-lacks, node_of-takes, node_of-again, node-lacks}
-use Rattle.scenario_text.proofs.EventLaws.{clock_codec, deliver_codec, drain_codec, store_codec, store-lacks, fetch_codec, fetch-lacks}
+use Rattle.scenario_text.proofs.EventLaws.{clock_codec, deliver_codec, lose_codec, drain_codec, store_codec, store-lacks, fetch_codec, fetch-lacks}
 
 -- ---- first words
 
@@ -39,6 +39,7 @@ form-again forms.Peer = refl
 form-again forms.Client = refl
 form-again forms.Clock = refl
 form-again forms.Deliver = refl
+form-again forms.Lose = refl
 form-again forms.Drain = refl
 form-again forms.Store = refl
 form-again forms.Fetch = refl
@@ -90,6 +91,7 @@ saying_in-takes forms.Peer words saying e = node-said Peer tt words saying e
 saying_in-takes forms.Client words saying e = node-said Client tt words saying e
 saying_in-takes forms.Clock words saying e = said_by forms.Clock _ _ _ (λ ms. said.Event (Clock ms)) clock_codec (λ x is. is) (λ x. refl) words saying e
 saying_in-takes forms.Deliver words saying e = said_by forms.Deliver _ _ _ (λ k. said.Event (Deliver k)) deliver_codec (λ x is. is) (λ x. refl) words saying e
+saying_in-takes forms.Lose words saying e = said_by forms.Lose _ _ _ (λ k. said.Event (Lose k)) lose_codec (λ x is. is) (λ x. refl) words saying e
 saying_in-takes forms.Drain words saying e = said_by forms.Drain _ _ _ (λ n. said.Event (Drain n)) drain_codec (λ x is. is) (λ x. refl) words saying e
 saying_in-takes forms.Store words saying e = said_by forms.Store _ _ _ (λ s. said.Event (Store s)) store_codec (λ x is. is) (λ x. refl) words saying e
 saying_in-takes forms.Fetch words saying e = said_by forms.Fetch _ _ _ (λ f. said.Event (Fetch f)) fetch_codec (λ x is. is) (λ x. refl) words saying e
@@ -126,6 +128,7 @@ in-again (said.Declaration (Kind kind)) is = form-says forms.Kind _ _ (rw (kind_
 in-again (said.Declaration (Node node)) is = ap (λ (first : List ℕ). saying_of (first ∷ node_words node)) (role_text-form node.role is.0) ∙ form-says (role_form node.role) (node_words node) (said.Declaration (Node node)) (node-again node is.0 is.1)
 in-again (said.Event (Clock ms)) is = form-says forms.Clock _ _ (rw (clock_codec.again ms is) refl)
 in-again (said.Event (Deliver k)) is = form-says forms.Deliver _ _ (rw (deliver_codec.again k is) refl)
+in-again (said.Event (Lose k)) is = form-says forms.Lose _ _ (rw (lose_codec.again k is) refl)
 in-again (said.Event (Drain n)) is = form-says forms.Drain _ _ (rw (drain_codec.again n is) refl)
 in-again (said.Event (Store s)) is = form-says forms.Store _ _ (rw (store_codec.again s is) refl)
 in-again (said.Event (Fetch f)) is = form-says forms.Fetch _ _ (rw (fetch_codec.again f is) refl)
@@ -143,6 +146,7 @@ form_text-lacks forms.Peer = Lacks-fixed 32 (codes "peer") refl
 form_text-lacks forms.Client = Lacks-fixed 32 (codes "client") refl
 form_text-lacks forms.Clock = Lacks-fixed 32 (codes "clock") refl
 form_text-lacks forms.Deliver = Lacks-fixed 32 (codes "deliver") refl
+form_text-lacks forms.Lose = Lacks-fixed 32 (codes "lose") refl
 form_text-lacks forms.Drain = Lacks-fixed 32 (codes "drain") refl
 form_text-lacks forms.Store = Lacks-fixed 32 (codes "store") refl
 form_text-lacks forms.Fetch = Lacks-fixed 32 (codes "fetch") refl
@@ -159,6 +163,7 @@ saying-joined (said.Declaration (Kind kind)) is = (form_text-lacks forms.Kind, k
 saying-joined (said.Declaration (Node node)) is = (role_text-lacks node.role, node-lacks node is.1)
 saying-joined (said.Event (Clock ms)) is = (form_text-lacks forms.Clock, (decimal-has_no 32 ms (omega (arith, is.1)) refl, tt))
 saying-joined (said.Event (Deliver k)) is = (form_text-lacks forms.Deliver, (decimal-has_no 32 k (omega (arith, is)) refl, tt))
+saying-joined (said.Event (Lose k)) is = (form_text-lacks forms.Lose, (decimal-has_no 32 k (omega (arith, is)) refl, tt))
 saying-joined (said.Event (Drain n)) is = (form_text-lacks forms.Drain, (decimal-has_no 32 n (omega (arith, is.1)) refl, tt))
 saying-joined (said.Event (Store s)) is = (form_text-lacks forms.Store, store-lacks s is)
 saying-joined (said.Event (Fetch f)) is = (form_text-lacks forms.Fetch, fetch-lacks f is)

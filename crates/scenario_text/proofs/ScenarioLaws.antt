@@ -5,22 +5,20 @@ use Rattle.std.specs.List.{AllByRecursion, flat_map}
 use Rattle.std.proofs.lemmas.Option.{same_Some}
 use Rattle.text_words.specs.Name.{IsName}
 use Rattle.data_models.specs.declared.config.KindDef.{KindDef}
-use Rattle.data_models.specs.declared.config.Config.{Config}
 use Rattle.data_models.specs.declared.config.TheConstants.{MAX_KINDS}
 use Rattle.data_models.specs.Configs.{AreDistinct}
-use Rattle.scenario_text.specs.declared.scenario.TheConstants.{MAX_NODES}
 use Rattle.request_words.specs.declared.node.DeclaredNode.{DeclaredNode}
 use Rattle.scenario_text.specs.declared.scenario.Scenario.{Scenario}
 use Rattle.scenario_text.specs.declared.scenario.Event.{Event}
 use Rattle.scenario_text.specs.declared.saying.Declaration.{Declaration}
 use Rattle.scenario_text.specs.declared.saying.Declaration.TheVariants.{Kind, Node}
 use Rattle.scenario_text.specs.declared.saying.Saying.TheVariants as said
-use Rattle.scenario_text.specs.Desk.{admits, is_new_kind, is_new_node}
+use Rattle.scenario_text.specs.Declaring.{has_peer, is_new_kind, is_new_node}
 use Rattle.scenario_text.specs.Sayings.{declaration_line, event_line, overlay_line, IsDeclaration, IsEvent}
-use Rattle.scenario_text.specs.Scenarios.{kind_in, node_in, IsDeclared, AreApart, IsEventOf, IsBegun}
+use Rattle.scenario_text.specs.Scenarios.{kind_in, node_in, IsDeclared, IsEventOf, IsBegun}
 use Rattle.scenario_text.specs.Reading.{with_kind, with_node, with_event, with_saying, said_at}
 use Rattle.scenario_text.proofs.Chains.{reads, reads-nil, reads-takes, reads-step}
-use Rattle.scenario_text.proofs.DeskLaws.{kind-new, node-new}
+use Rattle.scenario_text.proofs.DeclaringLaws.{kind-new, node-new, AreNodes}
 use Rattle.scenario_text.proofs.StepLaws.{Spell, named, length-map, first-takes, first-again, step-takes, said_at-again}
 
 -- ---- what is read spells a beginning
@@ -47,18 +45,18 @@ lines-spell (l ∷ ls) last e =
 -- what stands before the events that are still to come
 so_far : List ℕ → List (List ℕ) → List KindDef → List DeclaredNode → List Event → Scenario
 so_far name declarations kinds nodes events = record {
-  config = record { name = name; sequence = 1; replicas = 2; kinds = kinds };
+  config = record { name = name; sequence = 1; replicas = 0; kinds = kinds };
   declarations = declarations;
   nodes = nodes;
   events = events;
 }
 
-event-read : (name : List ℕ) (ds : List (List ℕ)) (ks : List KindDef) (ns : List DeclaredNode) (before : List Event) (e : Event) → IsEventOf (so_far name ds ks ns []).config ns e
+event-read : (name : List ℕ) (ds : List (List ℕ)) (ks : List KindDef) (ns : List DeclaredNode) (before : List Event) (e : Event) → IsEventOf ns e
     → said_at (Some (so_far name ds ks ns before)) e.line (event_line e.what) ≡ Some (so_far name ds ks ns (before ++ e ∷ []))
 unfolding so_far event_line with_saying with_event
 event-read name ds ks ns before e is = said_at-again (Some (so_far name ds ks ns before)) e.line (said.Event e.what) is.0 ∙ rw is.1 refl
 
-events-read : (name : List ℕ) (ds : List (List ℕ)) (ks : List KindDef) (ns : List DeclaredNode) (before es : List Event) (ls : List (ℕ × List ℕ)) → AllByRecursion (IsEventOf (so_far name ds ks ns []).config ns) es
+events-read : (name : List ℕ) (ds : List (List ℕ)) (ks : List KindDef) (ns : List DeclaredNode) (before es : List Event) (ls : List (ℕ × List ℕ)) → AllByRecursion (IsEventOf ns) es
     → map (λ l. l.1) ls ≡ map (λ e. event_line e.what) es → map (λ l. l.0) ls ≡ map (λ e. e.line) es → reads (Some (so_far name ds ks ns before)) ls ≡ Some (Some (so_far name ds ks ns (before ++ es)))
 events-read name ds ks ns before [] [] all texts places = reads-nil (Some (so_far name ds ks ns before)) ∙ ap (λ (es : List Event). Some (Some (so_far name ds ks ns es))) (sym (append-nil before))
 events-read name ds ks ns before [] (l ∷ ls) all texts places = absurd cc
@@ -78,8 +76,7 @@ record AreDeclarable (ks : List KindDef) (ns : List DeclaredNode) (declared : Li
   each : AllByRecursion IsDeclaration declared
   few_kinds : length (ks ++ flat_map kind_in declared) ≤ MAX_KINDS
   distinct : AreDistinct (ks ++ flat_map kind_in declared)
-  few_nodes : length (ns ++ flat_map node_in declared) ≤ MAX_NODES
-  apart : AreApart (ns ++ flat_map node_in declared)
+  nodes : AreNodes (ns ++ flat_map node_in declared)
 
 -- a declaration that is read
 declaration-read : (name : List ℕ) (ds : List (List ℕ)) (ks : List KindDef) (ns : List DeclaredNode) (n : ℕ) (d : Declaration) (more : List Declaration) → AreDeclarable ks ns (d ∷ more)
@@ -90,7 +87,7 @@ declaration-read name ds ks ns n (Kind kind) more are =
     ∙ rw (kind-new (so_far name ds ks ns []).config kind (flat_map kind_in more) are.few_kinds are.distinct) (ap Some (λ i. so_far name (ds ++ declaration_line (Kind kind) ∷ []) (ks ++ kind ∷ []) (sym (append-nil ns) i) []))
 declaration-read name ds ks ns n (Node node) more are =
     said_at-again (Some (so_far name ds ks ns [])) n (said.Declaration (Node node)) are.each.0
-    ∙ rw (node-new ns node (flat_map node_in more) are.few_nodes are.apart) (ap Some (λ i. so_far name (ds ++ declaration_line (Node node) ∷ []) (sym (append-nil ks) i) (ns ++ node ∷ []) []))
+    ∙ rw (node-new ns node (flat_map node_in more) are.nodes) (ap Some (λ i. so_far name (ds ++ declaration_line (Node node) ∷ []) (sym (append-nil ks) i) (ns ++ node ∷ []) []))
 
 -- those behind it
 declarable-rest : (ks : List KindDef) (ns : List DeclaredNode) (d : Declaration) (more : List Declaration) → AreDeclarable ks ns (d ∷ more) → AreDeclarable (ks ++ kind_in d) (ns ++ node_in d) more
@@ -101,8 +98,7 @@ declarable-rest ks ns d more are =
       each = are.each.1;
       few_kinds = subst (λ (all : List KindDef). length all ≤ MAX_KINDS) kinds are.few_kinds;
       distinct = subst AreDistinct kinds are.distinct;
-      few_nodes = subst (λ (all : List DeclaredNode). length all ≤ MAX_NODES) nodes are.few_nodes;
-      apart = subst AreApart nodes are.apart;
+      nodes = subst AreNodes nodes are.nodes;
     }
 
 -- the scenario that declarations and events make
@@ -120,28 +116,23 @@ made-cons name ds ks ns d more es =
     λ i. so_far name (append_assoc ds (declaration_line d ∷ []) (map declaration_line more) i) (append_assoc ks (kind_in d) (flat_map kind_in more) i) (append_assoc ns (node_in d) (flat_map node_in more) i) es
 
 -- the events of what was made
-EventsOf : List ℕ → List KindDef → List DeclaredNode → List Declaration → List Event → Type 0
-EventsOf name ks ns declared es = AllByRecursion (IsEventOf (so_far name [] (ks ++ flat_map kind_in declared) ns []).config (ns ++ flat_map node_in declared)) es
+EventsOf : List DeclaredNode → List Declaration → List Event → Type 0
+EventsOf ns declared es = AllByRecursion (IsEventOf (ns ++ flat_map node_in declared)) es
 
-declarations-read : (name : List ℕ) (ds : List (List ℕ)) (ks : List KindDef) (ns : List DeclaredNode) (declared : List Declaration) (es : List Event) (ls : List (ℕ × List ℕ)) → AreDeclarable ks ns declared → EventsOf name ks ns declared es
+declarations-read : (name : List ℕ) (ds : List (List ℕ)) (ks : List KindDef) (ns : List DeclaredNode) (declared : List Declaration) (es : List Event) (ls : List (ℕ × List ℕ)) → AreDeclarable ks ns declared → EventsOf ns declared es
     → map (λ l. l.1) ls ≡ map declaration_line declared ++ map (λ e. event_line e.what) es → drop (length declared) (map (λ l. l.0) ls) ≡ map (λ e. e.line) es
     → reads (Some (so_far name ds ks ns [])) ls ≡ Some (Some (made name ds ks ns declared es))
 unfolding EventsOf so_far
 declarations-read name ds ks ns [] es ls are events texts places =
-    let kinds : ks ++ [] ≡ ks = append-nil ks in
-    let nodes : ns ++ [] ≡ ns = append-nil ns in
-    events-read name ds ks ns [] es ls (transported kinds nodes events) texts places ∙ ap (λ (s : Scenario). Some (Some s)) (made-nil name ds ks ns es)
-  where
-    transported : ks ++ [] ≡ ks → ns ++ [] ≡ ns → EventsOf name ks ns [] es → AllByRecursion (IsEventOf (so_far name ds ks ns []).config ns) es
-    transported kinds nodes events = subst (λ (p : List KindDef × List DeclaredNode). AllByRecursion (IsEventOf (so_far name ds p.0 [] []).config p.1) es) (λ i. (kinds i, nodes i)) events
+    let here = subst (λ (all : List DeclaredNode). AllByRecursion (IsEventOf all) es) (append-nil ns) events in
+    events-read name ds ks ns [] es ls here texts places ∙ ap (λ (s : Scenario). Some (Some s)) (made-nil name ds ks ns es)
 declarations-read name ds ks ns (d ∷ more) es [] are events texts places = absurd cc
 declarations-read name ds ks ns (d ∷ more) es (l ∷ ls) are events texts places =
     let text : l.1 ≡ declaration_line d = cc in
     let rest_texts : map (λ l. l.1) ls ≡ map declaration_line more ++ map (λ e. event_line e.what) es = cc in
-    let kinds : ks ++ (kind_in d ++ flat_map kind_in more) ≡ (ks ++ kind_in d) ++ flat_map kind_in more = sym (append_assoc ks (kind_in d) (flat_map kind_in more)) in
     let nodes : ns ++ (node_in d ++ flat_map node_in more) ≡ (ns ++ node_in d) ++ flat_map node_in more = sym (append_assoc ns (node_in d) (flat_map node_in more)) in
     let step = ap (said_at (Some (so_far name ds ks ns [])) l.0) text ∙ declaration-read name ds ks ns l.0 d more are in
-    let later = subst (λ (p : List KindDef × List DeclaredNode). AllByRecursion (IsEventOf (so_far name [] p.0 [] []).config p.1) es) (λ i. (kinds i, nodes i)) events in
+    let later = subst (λ (all : List DeclaredNode). AllByRecursion (IsEventOf all) es) nodes events in
     reads-step (Some (so_far name ds ks ns [])) l ls (so_far name (ds ++ declaration_line d ∷ []) (ks ++ kind_in d) (ns ++ node_in d) []) step
     ∙ declarations-read name (ds ++ declaration_line d ∷ []) (ks ++ kind_in d) (ns ++ node_in d) more es ls (declarable-rest ks ns d more are) later rest_texts places
     ∙ ap (λ (s : Scenario). Some (Some s)) (made-cons name ds ks ns d more es)
@@ -177,15 +168,11 @@ spelled-reads ls s begun spell =
           each = declared.each;
           few_kinds = subst (λ (ks : List KindDef). length ks ≤ MAX_KINDS) declared.kinds begun.config.few;
           distinct = subst AreDistinct declared.kinds begun.config.distinct;
-          few_nodes = subst (λ (ns : List DeclaredNode). length ns ≤ MAX_NODES) declared.nodes begun.few;
-          apart = subst AreApart declared.nodes begun.apart;
+          nodes = subst AreNodes declared.nodes (record { few = begun.few; few_peers = begun.few_peers; apart = begun.apart });
         }
 
-    config : s.config ≡ (so_far name [] (flat_map kind_in declared.declared) [] []).config
-    config = λ i. record { name = name; sequence = begun.sequence i; replicas = begun.replicas i; kinds = declared.kinds i }
-
-    events : EventsOf name [] [] declared.declared s.events
-    events = subst (λ (p : Config × List DeclaredNode). AllByRecursion (IsEventOf p.0 p.1) s.events) (λ i. (config i, declared.nodes i)) begun.events
+    events : EventsOf [] declared.declared s.events
+    events = subst (λ (all : List DeclaredNode). AllByRecursion (IsEventOf all) s.events) declared.nodes begun.events
 
     by_lines : (ls : List (ℕ × List ℕ)) → map (λ l. l.1) ls ≡ (overlay_line name ∷ map declaration_line declared.declared) ++ map (λ e. event_line e.what) s.events
         → drop (length (overlay_line name ∷ map declaration_line declared.declared)) (map (λ l. l.0) ls) ≡ map (λ e. e.line) s.events → reads None ls ≡ Some (Some s)

@@ -20,11 +20,11 @@ use Rattle.scenario_text.specs.declared.saying.Declaration.{Declaration}
 use Rattle.scenario_text.specs.declared.saying.Declaration.TheVariants.{Kind, Node}
 use Rattle.scenario_text.specs.declared.saying.Saying.{Saying}
 use Rattle.scenario_text.specs.declared.saying.Saying.TheVariants as said
-use Rattle.scenario_text.specs.Desk.{admits, is_new_kind, is_new_node}
+use Rattle.scenario_text.specs.Declaring.{has_peer, is_new_kind, is_new_node}
 use Rattle.scenario_text.specs.Sayings.{declaration_line, event_line, overlay_line, declaration_words, event_words, saying_of, saying_words, IsDeclaration, IsEvent, IsSaying}
-use Rattle.scenario_text.specs.Scenarios.{kind_in, node_in, IsDeclared, AreApart, IsEventOf, IsBegun}
+use Rattle.scenario_text.specs.Scenarios.{kind_in, node_in, IsDeclared, IsEventOf, IsBegun}
 use Rattle.scenario_text.specs.Reading.{opened, and_kind, and_node, and_event, with_kind, with_node, with_event, with_saying, said_at}
-use Rattle.scenario_text.proofs.DeskLaws.{new-kind, new-node}
+use Rattle.scenario_text.proofs.DeclaringLaws.{new-kind, new-node, no_peers}
 use Rattle.request_words.proofs.GroupLaws.{all-snoc, map-snoc, flat_map-snoc}
 use Rattle.scenario_text.proofs.SayingLaws.{saying_codec}
 
@@ -80,7 +80,7 @@ said_at-again so_far n saying is = rw (saying_codec.again saying is) refl
 -- a scenario of which only the name is known
 unfoldable pub named : List ℕ → List ℕ → Scenario
 named name line = record {
-  config = record { name = name; sequence = 1; replicas = 2; kinds = [] };
+  config = record { name = name; sequence = 1; replicas = 0; kinds = [] };
   declarations = line ∷ [];
   nodes = [];
   events = [];
@@ -105,6 +105,7 @@ begun-named name is =
       replicas = refl;
       declared = record { declared = []; each = tt; lines = refl; kinds = refl; nodes = refl };
       few = omega arith;
+      few_peers = omega (arith, no_peers);
       apart = tt;
       events = tt;
     }
@@ -176,8 +177,9 @@ kind-takes ls n s kind next spell begun is e =
           nodes = begun.declared.nodes ∙ sym (append-nil (flat_map node_in begun.declared.declared)) ∙ sym (flat_map-snoc node_in begun.declared.declared (Kind kind));
         };
         few = begun.few;
+        few_peers = begun.few_peers;
         apart = begun.apart;
-        events = subst (λ (es : List Event). AllByRecursion (IsEventOf (and_kind s line kind).config s.nodes) es) (sym tests.0) tt;
+        events = subst (λ (es : List Event). AllByRecursion (IsEventOf s.nodes) es) (sym tests.0) tt;
       },
     )
 
@@ -188,7 +190,7 @@ node-takes ls n s node next spell begun is e =
     let line : List ℕ = declaration_line (Node node) in
     let a = bind_some (allowed (length s.events == 0 && is_new_node s.nodes node)) _ next e in
     let tests = no_events s (is_new_node s.nodes node) (allowed_some (length s.events == 0 && is_new_node s.nodes node) a.0 a.1) in
-    let new = new-node s.nodes node tests.1 begun.apart in
+    let new = new-node s.nodes node tests.1 begun.few_peers begun.apart in
     let early = texts-early ls s spell tests.0 in
     subst (λ (t : Scenario). Spell (ls ++ (n, line) ∷ []) t × IsBegun t) (same_Some (and_node s line node) next a.2) (
       record {
@@ -207,9 +209,10 @@ node-takes ls n s node next spell begun is e =
           kinds = begun.declared.kinds ∙ sym (append-nil (flat_map kind_in begun.declared.declared)) ∙ sym (flat_map-snoc kind_in begun.declared.declared (Node node));
           nodes = ap (λ (ns : List DeclaredNode). ns ++ node ∷ []) begun.declared.nodes ∙ sym (flat_map-snoc node_in begun.declared.declared (Node node));
         };
-        few = new.0;
-        apart = new.1;
-        events = subst (λ (es : List Event). AllByRecursion (IsEventOf s.config (s.nodes ++ node ∷ [])) es) (sym tests.0) tt;
+        few = new.few;
+        few_peers = new.few_peers;
+        apart = new.apart;
+        events = subst (λ (es : List Event). AllByRecursion (IsEventOf (s.nodes ++ node ∷ [])) es) (sym tests.0) tt;
       },
     )
 
@@ -219,8 +222,8 @@ unfolding with_event
 event-takes ls n s what next spell begun is e =
     let line : List ℕ = event_line what in
     let event : Event = record { line = n; what = what } in
-    let a = bind_some (allowed (admits s.config s.nodes what)) _ next e in
-    let admitted = allowed_some (admits s.config s.nodes what) a.0 a.1 in
+    let a = bind_some (allowed (has_peer s.nodes)) _ next e in
+    let peer = allowed_some (has_peer s.nodes) a.0 a.1 in
     let many = lines_many ls (s.declarations ++ map (λ (e : Event). event_line e.what) s.events) spell.texts in
     let longer = length-append s.declarations (map (λ (e : Event). event_line e.what) s.events) in
     subst (λ (t : Scenario). Spell (ls ++ (n, line) ∷ []) t × IsBegun t) (same_Some (and_event s n what) next a.2) (
@@ -245,8 +248,9 @@ event-takes ls n s what next spell begun is e =
           nodes = begun.declared.nodes;
         };
         few = begun.few;
+        few_peers = begun.few_peers;
         apart = begun.apart;
-        events = all-snoc (IsEventOf s.config s.nodes) s.events event begun.events (is, admitted);
+        events = all-snoc (IsEventOf s.nodes) s.events event begun.events (is, peer);
       },
     )
 

@@ -6,7 +6,7 @@ use Rattle.std.proofs.lemmas.List.{nil_from_length}
 use Rattle.std.proofs.lemmas.Option.{same_Some}
 use Rattle.text_words.specs.Lines.{lines_of}
 use Rattle.scenario_text.specs.declared.scenario.Scenario.{Scenario}
-use Rattle.scenario_text.specs.Desk.{has_peer}
+use Rattle.scenario_text.specs.Declaring.{has_peer}
 use Rattle.scenario_text.specs.Scenarios.{said, Begin, Nothing, Beginning, IsBegun, IsScenario, Say, IsTextOf}
 use Rattle.scenario_text.specs.Reading.{reading_from, scenario_of, whole_or_bad, reading_on, reading}
 use Rattle.scenario_text.proofs.Chains.{AreSound, said_from, said-from, reads, reads-nil, reading_from-takes, reading_from-again}

@@ -1,4 +1,4 @@
-pub mod Desk
+pub mod Declaring
 pub mod Echo
 pub mod Forms
 pub mod Lines

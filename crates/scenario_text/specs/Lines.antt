@@ -3,6 +3,7 @@ pub mod Kind
 pub mod Node
 pub mod Clock
 pub mod Deliver
+pub mod Lose
 pub mod Drain
 pub mod Store
 pub mod Fetch

@@ -11,7 +11,7 @@ use Rattle.scenario_text.specs.declared.scenario.EventKind.{EventKind}
 use Rattle.scenario_text.specs.declared.saying.Declaration.TheVariants.{Kind, Node}
 use Rattle.scenario_text.specs.declared.saying.Saying.{Saying}
 use Rattle.scenario_text.specs.declared.saying.Saying.TheVariants as said
-use Rattle.scenario_text.specs.Desk.{admits, has_peer, is_new_kind, is_new_node}
+use Rattle.scenario_text.specs.Declaring.{has_peer, is_new_kind, is_new_node}
 use Rattle.scenario_text.specs.Sayings.{saying_of}
 
 -- what the first line that isn't passed over says
@@ -54,10 +54,10 @@ with_node s line node = do
   fits ← allowed (length s.events == 0 && is_new_node s.nodes node)
   Some (and_node s line node)
 
--- one more event, where it says only what was declared
+-- one more event, where a peer was declared
 unfoldable pub with_event : Scenario → ℕ → EventKind → Option Scenario
 with_event s n what = do
-  fits ← allowed (admits s.config s.nodes what)
+  fits ← allowed (has_peer s.nodes)
   Some (and_event s n what)
 
 -- the scenario with what line n says, where it may say so

@@ -6,7 +6,7 @@ use Rattle.text_words.specs.Steps.{◌>>=◌, first_of}
 use Rattle.request_words.specs.declared.node.Role.{Role}
 use Rattle.request_words.specs.declared.node.Role.TheVariants.{Peer, Client, Hostile}
 use Rattle.scenario_text.specs.declared.scenario.EventKind.{EventKind}
-use Rattle.scenario_text.specs.declared.scenario.EventKind.TheVariants.{Clock, Deliver, Drain, Store, Fetch}
+use Rattle.scenario_text.specs.declared.scenario.EventKind.TheVariants.{Clock, Deliver, Lose, Drain, Store, Fetch}
 use Rattle.scenario_text.specs.declared.saying.Declaration.{Declaration}
 use Rattle.scenario_text.specs.declared.saying.Declaration.TheVariants.{Kind, Node}
 use Rattle.scenario_text.specs.declared.saying.Saying.{Saying}
@@ -19,6 +19,7 @@ use Rattle.scenario_text.specs.Lines.Kind.{kind_of, kind_words, IsKindLine}
 use Rattle.scenario_text.specs.Lines.Node.{node_of, node_words, IsNode}
 use Rattle.scenario_text.specs.Lines.Clock.{clock_of, clock_words, IsClock}
 use Rattle.scenario_text.specs.Lines.Deliver.{deliver_of, deliver_words, IsDeliver}
+use Rattle.scenario_text.specs.Lines.Lose.{lose_of, lose_words, IsLose}
 use Rattle.scenario_text.specs.Lines.Drain.{drain_of, drain_words, IsDrain}
 use Rattle.scenario_text.specs.Lines.Store.{store_of, store_words, IsStore}
 use Rattle.scenario_text.specs.Lines.Fetch.{fetch_of, fetch_words, IsFetch}
@@ -38,6 +39,7 @@ declaration_words (Node node) = role_text node.role ∷ node_words node
 abbrev pub event_words : EventKind → List (List ℕ)
 event_words (Clock ms) = form_text forms.Clock ∷ clock_words ms
 event_words (Deliver k) = form_text forms.Deliver ∷ deliver_words k
+event_words (Lose k) = form_text forms.Lose ∷ lose_words k
 event_words (Drain n) = form_text forms.Drain ∷ drain_words n
 event_words (Store e) = form_text forms.Store ∷ store_words e
 event_words (Fetch e) = form_text forms.Fetch ∷ fetch_words e
@@ -63,6 +65,7 @@ IsDeclaration (Node node) = IsRole node.role × IsNode node
 abbrev pub IsEvent : EventKind → Type 0
 IsEvent (Clock ms) = IsClock ms
 IsEvent (Deliver k) = IsDeliver k
+IsEvent (Lose k) = IsLose k
 IsEvent (Drain n) = IsDrain n
 IsEvent (Store e) = IsStore e
 IsEvent (Fetch e) = IsFetch e
@@ -93,6 +96,10 @@ said_clock words = clock_of words >>= λ ms. Some (said.Event (Clock ms))
 abbrev pub said_deliver : List (List ℕ) → Option Saying
 said_deliver words = deliver_of words >>= λ k. Some (said.Event (Deliver k))
 
+-- a loss, as what a line says
+abbrev pub said_lose : List (List ℕ) → Option Saying
+said_lose words = lose_of words >>= λ k. Some (said.Event (Lose k))
+
 -- deliveries, as what a line says
 abbrev pub said_drain : List (List ℕ) → Option Saying
 said_drain words = drain_of words >>= λ n. Some (said.Event (Drain n))
@@ -113,6 +120,7 @@ saying_in forms.Peer words = said_node Peer words
 saying_in forms.Client words = said_node Client words
 saying_in forms.Clock words = said_clock words
 saying_in forms.Deliver words = said_deliver words
+saying_in forms.Lose words = said_lose words
 saying_in forms.Drain words = said_drain words
 saying_in forms.Store words = said_store words
 saying_in forms.Fetch words = said_fetch words

@@ -3,15 +3,14 @@ use Rattle.std.specs.Prelude.{◌≡◌, ℕ, ◌+◌, ◌-◌, ◌≤◌, List,
 use Rattle.std.specs.List.{flat_map, enumerate_from, AllByRecursion}
 use Rattle.text_words.specs.Lines.{lines_of, is_sound_line, is_passed_over}
 use Rattle.data_models.specs.declared.config.KindDef.{KindDef}
-use Rattle.data_models.specs.declared.config.Config.{Config}
 use Rattle.data_models.specs.Configs.{IsConfig}
-use Rattle.scenario_text.specs.declared.scenario.TheConstants.{MAX_NODES, FIRST_SEQUENCE, REPLICAS}
+use Rattle.scenario_text.specs.declared.scenario.TheConstants.{MAX_NODES, MAX_PEERS, FIRST_SEQUENCE, REPLICAS}
 use Rattle.request_words.specs.declared.node.DeclaredNode.{DeclaredNode}
 use Rattle.scenario_text.specs.declared.scenario.Scenario.{Scenario}
 use Rattle.scenario_text.specs.declared.scenario.Event.{Event}
 use Rattle.scenario_text.specs.declared.saying.Declaration.{Declaration}
 use Rattle.scenario_text.specs.declared.saying.Declaration.TheVariants.{Kind, Node}
-use Rattle.scenario_text.specs.Desk.{admits, are_apart, has_peer}
+use Rattle.scenario_text.specs.Declaring.{are_apart, has_peer, peer_count}
 use Rattle.scenario_text.specs.Sayings.{declaration_line, event_line, overlay_line, IsDeclaration, IsEvent}
 
 -- the kinds and the nodes among declarations
@@ -33,15 +32,15 @@ pub record IsDeclared (s : Scenario) : Type 0 where
   pub kinds : s.config.kinds ≡ flat_map kind_in declared
   pub nodes : s.nodes ≡ flat_map node_in declared
 
--- no two nodes have one number or one Node-ID, and no two are peers
+-- no two nodes have one number or one Node-ID
 abbrev pub AreApart : List DeclaredNode → Type 0
 AreApart [] = Unit {0}
 AreApart (node ∷ nodes) =
     AllByRecursion (λ other. are_apart node other ≡ true) nodes × AreApart nodes
 
--- an event whose words are within their limits, and that says only what was declared
-abbrev pub IsEventOf : Config → List DeclaredNode → Event → Type 0
-IsEventOf config nodes e = IsEvent e.what × (admits config nodes e.what ≡ true)
+-- an event whose words are within their limits, behind nodes of which some is a peer
+abbrev pub IsEventOf : List DeclaredNode → Event → Type 0
+IsEventOf nodes e = IsEvent e.what × (has_peer nodes ≡ true)
 
 -- the beginning of a scenario: perhaps without a peer yet, and then without events
 pub record IsBegun (s : Scenario) : Type 0 where
@@ -50,8 +49,9 @@ pub record IsBegun (s : Scenario) : Type 0 where
   pub replicas : s.config.replicas ≡ REPLICAS
   pub declared : IsDeclared s
   pub few : length s.nodes ≤ MAX_NODES
+  pub few_peers : peer_count s.nodes ≤ MAX_PEERS
   pub apart : AreApart s.nodes
-  pub events : AllByRecursion (IsEventOf s.config s.nodes) s.events
+  pub events : AllByRecursion (IsEventOf s.nodes) s.events
 
 -- a scenario has a peer
 pub record IsScenario (s : Scenario) : Type 0 where

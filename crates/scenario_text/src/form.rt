@@ -12,19 +12,21 @@ pub enum Form {
     Client,
     Clock,
     Deliver,
+    Lose,
     Drain,
     Store,
     Fetch,
 }
 
 // All forms.
-const FORMS: [Form; 9] = [
+const FORMS: [Form; 10] = [
     Form::Overlay,
     Form::Kind,
     Form::Peer,
     Form::Client,
     Form::Clock,
     Form::Deliver,
+    Form::Lose,
     Form::Drain,
     Form::Store,
     Form::Fetch,
@@ -43,6 +45,7 @@ impl Form {
             Form::Client => b"client",
             Form::Clock => b"clock",
             Form::Deliver => b"deliver",
+            Form::Lose => b"lose",
             Form::Drain => b"drain",
             Form::Store => b"store",
             Form::Fetch => b"fetch",

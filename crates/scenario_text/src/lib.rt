@@ -1,7 +1,7 @@
 //! Scenarios: what is declared and what happens, read from a text or refused at its first bad line.
 #![tactic(auto)]
 
-mod desk;
+mod declaring;
 mod echo;
 mod fault;
 mod form;
@@ -19,5 +19,6 @@ pub use lines::clock::MAX_CLOCK;
 pub use lines::drain::MAX_DRAIN;
 pub use reading::read_scenario;
 pub use scenario::{
-    Event, EventKind, FIRST_SEQUENCE, FetchEvent, MAX_NODES, REPLICAS, Scenario, StoreEvent,
+    Event, EventKind, FIRST_SEQUENCE, FetchEvent, MAX_NODES, MAX_PEERS, REPLICAS, Scenario,
+    StoreEvent,
 };

@@ -5,6 +5,7 @@ pub mod deliver;
 pub mod drain;
 pub mod fetch;
 pub mod kind;
+pub mod lose;
 pub mod node;
 pub mod overlay;
 pub mod store;

@@ -7,7 +7,7 @@ ghost use Rattle.scenario_text.specs.Reading.{opened, with_kind, with_node, with
 ghost use Rattle.scenario_text.specs.Reads.{Reads, IsBad, HasAtMost};
 ghost use Rattle.scenario_text.specs.declared.scenario.Scenario.{Scenario};
 
-use crate::desk::{admits, has_peer, is_new_kind, is_new_node};
+use crate::declaring::{has_peer, is_new_kind, is_new_node};
 use crate::fault::TextFault;
 use crate::saying::{Declaration, Saying, saying_of};
 use crate::scenario::{Event, EventKind, FIRST_SEQUENCE, REPLICAS, Scenario};
@@ -81,7 +81,7 @@ fn with_event(mut s: Scenario, n: u64, what: EventKind) -> Result<Option<Scenari
     ensures value { IfOk result (λ next. next ≡ with_event s n what) }
     ensures few { IfOk result (λ next. HasAtMost (length s.events + 1) next) }
 {
-    if !admits(&s.config, s.nodes.as_slice(), &what) {
+    if !has_peer(s.nodes.as_slice()) {
         return Ok(None);
     }
     s.events.push(Event { line: n, what })?;

@@ -1,7 +1,8 @@
 //! What each request begins with.
 
-ghost use Rattle.std.specs.Prelude.{◌≡◌, ◌-◌, ◌^◌, IfOk, option_map};
+ghost use Rattle.std.specs.Prelude.{◌≡◌, ◌-◌, ◌^◌, IfOk, codes, option_map};
 ghost use Rattle.text_words.specs.Decimal.{decimal_of};
+ghost use Rattle.text_words.specs.Labelled.{optional_of};
 ghost use Rattle.text_words.specs.Steps.{part_of};
 ghost use Rattle.scenario_text.specs.Requests.{address_of};
 ghost use Rattle.request_words.specs.Resources.{resource_of};
@@ -9,7 +10,7 @@ ghost use Rattle.request_words.specs.Resources.{resource_of};
 use reload_base::NoMemory;
 use request_words::{ResourceName, resource_of};
 use std::alloc::Global;
-use text_words::{Pieces, decimal_of};
+use text_words::{Pieces, decimal_of, take_labelled};
 
 /// Who asks whom for which resource.
 #[derive(Debug, Drop)]
@@ -58,5 +59,16 @@ fn take_resource(alloc: Global, words: &mut Pieces<'_>) -> Result<Option<Resourc
     match words.take() {
         None => Ok(None),
         Some(word) => resource_of(alloc, word),
+    }
+}
+
+/// Takes the word `ttl=N`, where there is one: how many hops a request may go.
+pub fn take_ttl(words: &mut Pieces<'_>) -> Option<Option<u8>>
+    ensures { option_map (λ ttl. (ttl, words.new)) result
+        ≡ optional_of (codes "ttl=") 255 words.old }
+{
+    match take_labelled(words, b"ttl=", u64::from(u8::MAX))? {
+        None => Some(None),
+        Some(hops) => Some(Some(hops as u8)),
     }
 }

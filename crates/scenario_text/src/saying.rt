@@ -10,6 +10,7 @@ use crate::lines::deliver::deliver_of;
 use crate::lines::drain::drain_of;
 use crate::lines::fetch::fetch_of;
 use crate::lines::kind::kind_of;
+use crate::lines::lose::lose_of;
 use crate::lines::node::node_of;
 use crate::lines::overlay::overlay_of;
 use crate::lines::store::store_of;
@@ -89,6 +90,7 @@ fn saying_in(alloc: Global, form: Form, words: Pieces<'_>) -> Result<Option<Sayi
         Form::Client => node(alloc, Role::Client, words),
         Form::Clock => Ok(clock_of(words).map(|ms| Saying::Event(EventKind::Clock(ms)))),
         Form::Deliver => Ok(deliver_of(words).map(|k| Saying::Event(EventKind::Deliver(k)))),
+        Form::Lose => Ok(lose_of(words).map(|k| Saying::Event(EventKind::Lose(k)))),
         Form::Drain => Ok(drain_of(words).map(|n| Saying::Event(EventKind::Drain(n)))),
         Form::Store => store(alloc, words),
         Form::Fetch => fetch(alloc, words),

@@ -8,11 +8,14 @@ use sqlite_items::Boxed;
 /// The most nodes that a scenario declares (this profile).
 pub const MAX_NODES: usize = 256;
 
+/// The most peers among them (this profile).
+pub const MAX_PEERS: usize = 64;
+
 /// The number of the configuration with which a scenario begins.
 pub const FIRST_SEQUENCE: u16 = 1;
 
 /// How many successors hold a copy of each record, where no line says it.
-pub const REPLICAS: u8 = 2;
+pub const REPLICAS: u8 = 0;
 
 /// A scenario.
 #[derive(Debug, Drop)]
@@ -40,7 +43,9 @@ pub enum EventKind {
     Clock(u64),
     /// The frame of this number is heard, counted from 1.
     Deliver(u64),
-    /// So many times, 1 to 1,000,000, the lowest frame that wasn't heard yet is heard.
+    /// The frame of this number is lost, where it wasn't heard yet.
+    Lose(u64),
+    /// So many times, 1 to 1,000,000, the lowest frame that was neither heard nor lost is heard.
     Drain(u64),
     /// A client asks a peer to store values.
     Store(Boxed<StoreEvent>),

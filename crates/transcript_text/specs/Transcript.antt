@@ -171,20 +171,14 @@ abbrev pub decide_line : List DeclaredNode → Decision → List ℕ
 decide_line nodes d =
     decided_line nodes d.peer d.time d.resource d.origin.0 d.id d.asked d.answer
 
--- answer H.L ANSWER
-unfoldable pub answer_line : ℕ → Answer → List ℕ
-answer_line id answer = codes "answer" ++ spaced (transaction_text id) ++ answer_text answer
-
--- the event at a line names a request that wasn't issued
-unfoldable pub refused_line : ℕ → List ℕ
-refused_line n = codes "refused" ++ spaced (decimal n) ++ spaced (codes "no-such-frame")
-
--- end requests=Q decisions=D
-unfoldable pub end_line : ℕ → ℕ → List ℕ
-end_line requests decisions =
-    codes "end" ++ spaced (labelled (codes "requests=") requests)
-    ++ spaced (labelled (codes "decisions=") decisions)
-
 -- bad line N
 unfoldable pub bad_line : ℕ → List ℕ
 bad_line n = codes "bad line" ++ spaced (decimal n)
+
+-- air full B
+unfoldable pub air_full_line : ℕ → List ℕ
+air_full_line bytes = codes "air full" ++ spaced (decimal bytes)
+
+-- node full N
+unfoldable pub node_full_line : ℕ → List ℕ
+node_full_line number = codes "node full" ++ spaced (decimal number)

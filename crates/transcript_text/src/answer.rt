@@ -3,15 +3,15 @@
 ghost use Rattle.std.specs.Prelude.{◌≡◌, ◌++◌};
 ghost use Rattle.std.specs.List.{flat_map};
 ghost use Rattle.text_words.specs.Codec.{Appended, AppendedSome};
-ghost use Rattle.text_words.specs.Lines.{ended, spaced_by};
-ghost use Rattle.transcript_text.specs.Transcript.{answer_line, answer_text, code_text, found_kind, found_values};
+ghost use Rattle.text_words.specs.Lines.{spaced_by};
+ghost use Rattle.transcript_text.specs.Transcript.{answer_text, code_text, found_kind, found_values};
 ghost use Rattle.transcript_text.specs.Words.{counter_text};
 
 use crate::value::{put_all_stored, put_head, put_next_raw};
 use data_models::{KindValues, StoreKind};
 use reload_base::{Bytes, NoMemory};
 use storage_model::Answer;
-use text_words::{all_or_nothing, put_decimal, put_transaction};
+use text_words::{all_or_nothing, put_decimal};
 
 #[tactic(auto, unfolding(crate::specs::Words::counter_text))]
 fn put_counter(out: &mut Bytes, counter: (u32, u64)) -> Result<(), NoMemory>
@@ -116,23 +116,4 @@ pub fn put_answer(out: &mut Bytes, answer: &Answer) -> Result<(), NoMemory>
         Answer::Found { kinds } => put_found_kinds(out, kinds.as_slice()),
         Answer::Joined => out.extend(b" joined"),
     }
-}
-
-#[tactic(auto, unfolding(crate::specs::Transcript::answer_line))]
-fn put_answer_words(out: &mut Bytes, id: u64, answer: &Answer) -> Result<(), NoMemory>
-    ensures { AppendedSome out.old out.new (ended (answer_line id answer.now)) result }
-{
-    out.extend(b"answer ")?;
-    put_transaction(out, id)?;
-    put_answer(out, answer)?;
-    out.extend(b"\n")
-}
-
-/// Appends `answer H.L ANSWER`: the client has the answer to its request.
-pub fn put_answer_line(out: &mut Bytes, id: u64, answer: &Answer) -> Result<(), NoMemory>
-    ensures { Appended out.old out.new (ended (answer_line id answer.now)) result }
-{
-    let before = out.len();
-    let appended = put_answer_words(out, id, answer);
-    all_or_nothing(out, before, appended)
 }

@@ -9,7 +9,7 @@ mod laws;
 mod lines;
 mod value;
 
-pub use answer::{put_answer_line, put_counters, put_found_kinds};
+pub use answer::{put_counters, put_found_kinds};
 pub use decision::{DecisionLine, put_decide_line};
 pub use laws::words_both_ways;
-pub use lines::{put_bad_line, put_end_line, put_refused_line};
+pub use lines::{put_air_full_line, put_bad_line, put_node_full_line};

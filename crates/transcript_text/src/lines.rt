@@ -1,32 +1,12 @@
-//! Lines of a transcript that tell of no decision.
+//! The last lines of a command that doesn't come to its end.
 
 ghost use Rattle.std.specs.Prelude.{◌≡◌};
 ghost use Rattle.text_words.specs.Codec.{Appended, AppendedSome};
 ghost use Rattle.text_words.specs.Lines.{ended};
-ghost use Rattle.transcript_text.specs.Transcript.{bad_line, end_line, refused_line};
+ghost use Rattle.transcript_text.specs.Transcript.{bad_line, air_full_line, node_full_line};
 
 use reload_base::{Bytes, NoMemory};
-use text_words::{all_or_nothing, put_decimal, put_labelled};
-
-#[tactic(auto, unfolding(crate::specs::Transcript::end_line))]
-fn put_end_words(out: &mut Bytes, requests: u64, decisions: u64) -> Result<(), NoMemory>
-    ensures { AppendedSome out.old out.new (ended (end_line requests decisions)) result }
-{
-    out.extend(b"end ")?;
-    put_labelled(out, b"requests=", requests)?;
-    out.extend(b" ")?;
-    put_labelled(out, b"decisions=", decisions)?;
-    out.extend(b"\n")
-}
-
-/// Appends `end requests=Q decisions=D`.
-pub fn put_end_line(out: &mut Bytes, requests: u64, decisions: u64) -> Result<(), NoMemory>
-    ensures { Appended out.old out.new (ended (end_line requests decisions)) result }
-{
-    let before = out.len();
-    let appended = put_end_words(out, requests, decisions);
-    all_or_nothing(out, before, appended)
-}
+use text_words::{all_or_nothing, put_decimal};
 
 #[tactic(auto, unfolding(crate::specs::Transcript::bad_line))]
 fn put_bad_words(out: &mut Bytes, n: u64) -> Result<(), NoMemory>
@@ -46,21 +26,38 @@ pub fn put_bad_line(out: &mut Bytes, n: u64) -> Result<(), NoMemory>
     all_or_nothing(out, before, appended)
 }
 
-#[tactic(auto, unfolding(crate::specs::Transcript::refused_line))]
-fn put_refused_words(out: &mut Bytes, n: u64) -> Result<(), NoMemory>
-    ensures { AppendedSome out.old out.new (ended (refused_line n)) result }
+#[tactic(auto, unfolding(crate::specs::Transcript::air_full_line))]
+fn put_air_full_words(out: &mut Bytes, bytes: u64) -> Result<(), NoMemory>
+    ensures { AppendedSome out.old out.new (ended (air_full_line bytes)) result }
 {
-    out.extend(b"refused ")?;
-    put_decimal(out, n)?;
-    out.extend(b" no-such-frame")?;
+    out.extend(b"air full ")?;
+    put_decimal(out, bytes)?;
     out.extend(b"\n")
 }
 
-/// Appends `refused N no-such-frame`: the event at line N names a request that wasn't issued.
-pub fn put_refused_line(out: &mut Bytes, n: u64) -> Result<(), NoMemory>
-    ensures { Appended out.old out.new (ended (refused_line n)) result }
+/// Appends `air full B`: B bytes were sent.
+pub fn put_air_full_line(out: &mut Bytes, bytes: u64) -> Result<(), NoMemory>
+    ensures { Appended out.old out.new (ended (air_full_line bytes)) result }
 {
     let before = out.len();
-    let appended = put_refused_words(out, n);
+    let appended = put_air_full_words(out, bytes);
+    all_or_nothing(out, before, appended)
+}
+
+#[tactic(auto, unfolding(crate::specs::Transcript::node_full_line))]
+fn put_node_full_words(out: &mut Bytes, number: u32) -> Result<(), NoMemory>
+    ensures { AppendedSome out.old out.new (ended (node_full_line number)) result }
+{
+    out.extend(b"node full ")?;
+    put_decimal(out, u64::from(number))?;
+    out.extend(b"\n")
+}
+
+/// Appends `node full N`: the node with the number N has a full load.
+pub fn put_node_full_line(out: &mut Bytes, number: u32) -> Result<(), NoMemory>
+    ensures { Appended out.old out.new (ended (node_full_line number)) result }
+{
+    let before = out.len();
+    let appended = put_node_full_words(out, number);
     all_or_nothing(out, before, appended)
 }

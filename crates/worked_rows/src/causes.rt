@@ -17,11 +17,11 @@ const KINDS: &str = "overlay abc\n\
 const FIRST: &str =
     "store 2 1 @abc kind=256/0 -:10:60:+41 kind=257/0 0:10:60:+41 end:10:60:+42 kind=258/0 \
     =61:10:60:+41\n\
-    drain 1\n";
+    drain 4\n";
 
 // The answer of the last decision.
 fn answer_to(alloc: Global, line: &str) -> Result<(Status, Bytes), NoMemory> {
-    let text = format!(in alloc; "{KINDS}{FIRST}{line}\ndrain 1\n")?;
+    let text = format!(in alloc; "{KINDS}{FIRST}{line}\ndrain 4\n")?;
     let (status, written) = run_of(alloc, text.as_bytes())?;
     let mut last = Bytes::new(alloc);
     for line in written.as_slice().split(|byte| *byte == b'\n') {

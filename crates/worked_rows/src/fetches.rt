@@ -22,7 +22,7 @@ const NOTHING_STORED: (&str, &str) = (
     "fetch 2 1 @abc 256\ndrain 20\n",
     "decide 1 0 a9993e364706816aba3e25717850c26c fetch 2 2.1 max=0 256/0 -> kind=256/0 -:0:0:-\n\
     answer 2.1 kind=256/0 -:0:0:-\n\
-    end requests=1 decisions=1\n",
+    end frames=4 bytes=510 clock=0 settled=yes\n",
 );
 
 // Two Stores of one time, drained.
@@ -32,23 +32,23 @@ const ONE_TIME: (&str, &str) = (
     drain 40\n",
     "decide 1 0 a9993e364706816aba3e25717850c26c store 2 2.1 kind=256/0 -:5000:60:+41:2:95 \
     -> ok 256:1\n\
-    answer 2.1 ok 256:1\n\
     decide 1 0 a9993e364706816aba3e25717850c26c store 2 2.2 kind=256/0 -:5000:60:+42:2:95 \
     -> error 9\n\
+    answer 2.1 ok 256:1\n\
     answer 2.2 error 9\n\
-    end requests=2 decisions=2\n",
+    end frames=8 bytes=1144 clock=0 settled=yes\n",
 );
 
 // Four Stores that ask for counters: the stored one, and twice another one.
 const COUNTERS: (&str, &str) = (
     "store 2 1 @abc kind=256/0 -:1:60:+41\n\
-    drain 1\n\
+    drain 4\n\
     store 2 1 @abc kind=256/1 -:2:60:+41\n\
-    drain 1\n\
+    drain 4\n\
     store 2 1 @abc kind=256/1 -:3:60:+41\n\
-    drain 1\n\
+    drain 4\n\
     store 2 1 @abc kind=256/9 -:4:60:+41\n\
-    drain 1\n",
+    drain 4\n",
     "decide 1 0 a9993e364706816aba3e25717850c26c store 2 2.1 kind=256/0 -:1:60:+41:2:95 \
     -> ok 256:1\n\
     answer 2.1 ok 256:1\n\
@@ -61,17 +61,17 @@ const COUNTERS: (&str, &str) = (
     decide 1 0 a9993e364706816aba3e25717850c26c store 2 2.4 kind=256/9 -:4:60:+41:2:95 -> error 5 \
     256:2\n\
     answer 2.4 error 5 256:2\n\
-    end requests=4 decisions=4\n",
+    end frames=16 bytes=2320 clock=0 settled=yes\n",
 );
 
-// A Store under another name, and a delivery of a request that wasn't issued.
+// A Store under another name, and a delivery of a frame that wasn't sent.
 const REFUSED: (&str, &str) = (
-    "store 2 1 @test kind=256/0 -:5000:60:+6869\ndeliver 1\ndeliver 2\n",
+    "store 2 1 @test kind=256/0 -:5000:60:+6869\ndeliver 1\ndeliver 4\ndeliver 3\n",
     "decide 1 0 a94a8fe5ccb19ba61c4c0873d391e987 store 2 2.1 kind=256/0 -:5000:60:+6869:2:96 \
     -> error 2\n\
-    answer 2.1 error 2\n\
     refused 7 no-such-frame\n\
-    end requests=1 decisions=1\n",
+    answer 2.1 error 2\n\
+    end frames=4 bytes=567 clock=0 settled=yes\n",
 );
 
 // A value is removed, and stored anew.
@@ -82,21 +82,21 @@ const REMOVED: (&str, &str) = (
     fetch 2 1 @abc 256/1\n\
     store 2 1 @abc kind=256/2 -:18446744073709551615:0:+41\n\
     deliver 0\n\
-    drain 4\n\
-    drain 2\n",
+    drain 15\n\
+    drain 6\n",
     "refused 10 no-such-frame\n\
     decide 1 0 a9993e364706816aba3e25717850c26c store 2 2.1 kind=256/0 -:1:60:+:2:94 -> ok 256:1\n\
-    answer 2.1 ok 256:1\n\
     decide 1 0 a9993e364706816aba3e25717850c26c store 2 2.2 kind=256/0 -:2:60:-:2:94 -> ok 256:2\n\
-    answer 2.2 ok 256:2\n\
     decide 1 0 a9993e364706816aba3e25717850c26c fetch 2 2.3 max=0 256/2 -> kind=256/2\n\
-    answer 2.3 kind=256/2\n\
     decide 1 0 a9993e364706816aba3e25717850c26c fetch 2 2.4 max=0 256/1 -> kind=256/2 -:2:60:-\n\
-    answer 2.4 kind=256/2 -:2:60:-\n\
     decide 1 0 a9993e364706816aba3e25717850c26c store 2 2.5 kind=256/2 \
     -:18446744073709551615:0:+41:2:95 -> ok 256:3\n\
+    answer 2.1 ok 256:1\n\
+    answer 2.2 ok 256:2\n\
+    answer 2.3 kind=256/2\n\
+    answer 2.4 kind=256/2 -:2:60:-\n\
     answer 2.5 ok 256:3\n\
-    end requests=5 decisions=5\n",
+    end frames=20 bytes=2790 clock=0 settled=yes\n",
 );
 
 #[test]
@@ -144,7 +144,7 @@ fn an_answer_is_kept_for_64_decisions(rt: HostRuntime) -> Result<(), Fail> {
     let mut events = joined(rt.alloc(), &[SECOND_OF_LIFE.0])?;
     let mut lines = joined(rt.alloc(), &[SECOND_OF_LIFE.1])?;
     for number in 4..68 {
-        events.extend(b"store 2 1 @abc kind=256/0 -:5000:1:+6869\ndrain 1\n")?;
+        events.extend(b"store 2 1 @abc kind=256/0 -:5000:1:+6869\ndrain 20\n")?;
         lines.extend(too_old(rt.alloc(), number)?.as_slice())?;
     }
     events.extend(b"deliver 1\n")?;
@@ -152,12 +152,18 @@ fn an_answer_is_kept_for_64_decisions(rt: HostRuntime) -> Result<(), Fail> {
         b"decide 1 1000 a9993e364706816aba3e25717850c26c store 2 2.1 kind=256/0 \
         -:5000:1:+6869:2:96 -> error 9\n",
     )?;
-    lines.extend(b"end requests=67 decisions=69\n")?;
+    lines.extend(b"end frames=273 bytes=38410 clock=1000 settled=yes\n")?;
     assert_run(&rt, events.as_slice(), lines.as_slice())
 }
 
-// The lines of a Store of so many bytes `a`.
-fn filled(alloc: Global, count: usize, size: usize, answer: &str) -> Result<Bytes, NoMemory> {
+// The lines of a Store of so many bytes `a`, whose frames have so many.
+fn filled(
+    alloc: Global,
+    count: usize,
+    size: usize,
+    answer: &str,
+    sent: usize,
+) -> Result<Bytes, NoMemory> {
     let mut lines = joined(
         alloc,
         &["decide 1 0 a9993e364706816aba3e25717850c26c store 2 2.1 kind=256/0 -:1:60:+"],
@@ -166,7 +172,8 @@ fn filled(alloc: Global, count: usize, size: usize, answer: &str) -> Result<Byte
         lines.extend(b"61")?;
     }
     let rest = format!(in alloc;
-        ":2:{size} -> {answer}\nanswer 2.1 {answer}\nend requests=1 decisions=1\n"
+        ":2:{size} -> {answer}\nanswer 2.1 {answer}\n\
+        end frames=4 bytes={sent} clock=0 settled=yes\n"
     )?;
     lines.extend(rest.as_bytes())?;
     Ok(lines)
@@ -174,10 +181,10 @@ fn filled(alloc: Global, count: usize, size: usize, answer: &str) -> Result<Byte
 
 #[test]
 fn a_record_of_the_largest_weight(rt: HostRuntime) -> Result<(), Fail> {
-    let lines = filled(rt.alloc(), 130_882, 130_976, "ok 256:1")?;
+    let lines = filled(rt.alloc(), 130_882, 130_976, "ok 256:1", 131_459)?;
     let events = b"store 2 1 @abc kind=256/0 -:1:60:#130882\ndrain 20\n".as_slice();
     assert_run(&rt, events, lines.as_slice())?;
-    let lines = filled(rt.alloc(), 130_883, 130_977, "error 8")?;
+    let lines = filled(rt.alloc(), 130_883, 130_977, "error 8", 131_448)?;
     let events = b"store 2 1 @abc kind=256/0 -:1:60:#130883\ndrain 20\n".as_slice();
     assert_run(&rt, events, lines.as_slice())
 }

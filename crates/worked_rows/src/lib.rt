@@ -6,6 +6,10 @@ mod bad_lines;
 #[cfg(test)]
 mod causes;
 #[cfg(test)]
+mod events;
+#[cfg(test)]
+mod faults;
+#[cfg(test)]
 mod fetches;
 #[cfg(test)]
 mod limits;
@@ -16,4 +20,8 @@ mod models;
 #[cfg(test)]
 mod refusals;
 #[cfg(test)]
+mod rings;
+#[cfg(test)]
 mod rows;
+#[cfg(test)]
+mod traces;

@@ -1,7 +1,7 @@
 use overlay_command::Status;
 use std::process::Abort;
 use std::test::Fail;
-use worked_calls::{ended, repeated, show_of};
+use worked_calls::{Failing, ended, repeated, show_of};
 
 // A payload of sequence 1 with the message `abc`, which is too short for a header, and its ack.
 const ABC_AND_ACK: [u8; 20] = [
@@ -130,16 +130,15 @@ fn a_listing_is_one_piece(rt: HostRuntime) -> Result<(), Fail> {
         (&[3], &[2], Status::Done),
     ];
     for (failing_reads, failing_writes, status) in cases {
-        let (got, written) = ended(
-            rt.alloc(),
-            &["show"],
-            &MESSAGE_AND_ACK,
-            failing_reads,
-            failing_writes,
-        )?;
-        assert_eq!(rt; got, status, "at {failing_reads:?} and {failing_writes:?}");
+        let failing = Failing::at(failing_reads, failing_writes);
+        let call = ended(rt.alloc(), &["show"], &MESSAGE_AND_ACK, &failing)?;
+        assert_eq!(rt;
+            call.status,
+            status,
+            "at {failing_reads:?} and {failing_writes:?}"
+        );
         let is_written = status == Status::Done;
-        assert_eq!(rt; written.is_empty(), !is_written);
+        assert_eq!(rt; call.written.is_empty(), !is_written);
     }
     Ok(())
 }

@@ -1,6 +1,8 @@
 use overlay_command::Status;
 use std::test::Fail;
-use worked_calls::{ACTS_ONCE, DECLARATIONS, THREE_DELIVERIES, ended, joined, repeated, run_of};
+use worked_calls::{
+    ACTS_ONCE, DECLARATIONS, Failing, THREE_DELIVERIES, ended, joined, repeated, run_of,
+};
 
 // The most bytes of a scenario.
 const MOST_BYTES: usize = 16_777_216;
@@ -14,13 +16,16 @@ fn words_that_are_no_form_of_a_call(rt: HostRuntime) -> Result<(), Fail> {
         &["run", "show"],
         &["Run"],
         &["shows"],
-        &["trace"],
+        &["trace", "run"],
         &["--help"],
     ];
     for words in forms {
-        let (status, written) = ended(rt.alloc(), words, b"", &[1], &[])?;
-        assert_eq!(rt; status, Status::Usage, "of {words:?}");
-        assert_eq!(rt; written.as_slice(), b"usage: overlay run|show\n".as_slice());
+        let call = ended(rt.alloc(), words, b"", &Failing::at(&[1], &[]))?;
+        assert_eq!(rt; call.status, Status::Usage, "of {words:?}");
+        assert_eq!(rt;
+            call.written.as_slice(),
+            b"usage: overlay run|trace|show\n".as_slice()
+        );
     }
     Ok(())
 }
@@ -34,24 +39,18 @@ fn a_read_or_a_write_fails(rt: HostRuntime) -> Result<(), Fail> {
         (&[2], &[], Status::ReadFault, b""),
         (&[], &[1], Status::WriteFault, b""),
         (&[], &[2], Status::WriteFault, DECLARATIONS.as_bytes()),
-        (&[3], &[6], Status::Done, whole.as_slice()),
+        (&[3], &[100], Status::Done, whole.as_slice()),
     ];
     for (failing_reads, failing_writes, status, written) in cases {
-        let words = ["run"];
-        let got = ended(
-            rt.alloc(),
-            &words,
-            text.as_slice(),
-            failing_reads,
-            failing_writes,
-        )?;
+        let failing = Failing::at(failing_reads, failing_writes);
+        let got = ended(rt.alloc(), &["run"], text.as_slice(), &failing)?;
         assert_eq!(rt;
-            got.0,
+            got.status,
             status,
             "at {failing_reads:?} and {failing_writes:?}"
         );
         assert_eq!(rt;
-            got.1.as_slice(),
+            got.written.as_slice(),
             written,
             "at {failing_reads:?} and {failing_writes:?}"
         );
@@ -63,9 +62,9 @@ fn a_read_or_a_write_fails(rt: HostRuntime) -> Result<(), Fail> {
 fn the_line_of_a_refusal_is_not_written(rt: HostRuntime) -> Result<(), Fail> {
     let forms: [&[&str]; 2] = [&["run"], &[]];
     for words in forms {
-        let (status, written) = ended(rt.alloc(), words, b"", &[], &[1])?;
-        assert_eq!(rt; status, Status::WriteFault, "of {words:?}");
-        assert_eq!(rt; written.len(), 0);
+        let call = ended(rt.alloc(), words, b"", &Failing::at(&[], &[1]))?;
+        assert_eq!(rt; call.status, Status::WriteFault, "of {words:?}");
+        assert_eq!(rt; call.written.len(), 0);
     }
     Ok(())
 }

@@ -6,16 +6,17 @@ use worked_calls::{ACTS_ONCE, DECLARATIONS, THREE_DELIVERIES, joined, run_of};
 const TWO_OF_ONE_TIME: &str = "store 2 1 @abc kind=256/0 -:5000:60:+6869\n\
     store 2 1 @abc kind=256/0 -:5000:60:+6869\n\
     deliver 1\n\
-    deliver 2\n";
+    deliver 2\n\
+    drain 100\n";
 
 const SECOND_TOO_OLD: &str =
     "decide 1 0 a9993e364706816aba3e25717850c26c store 2 2.1 kind=256/0 -:5000:60:+6869:2:96 \
     -> ok 256:1\n\
-    answer 2.1 ok 256:1\n\
     decide 1 0 a9993e364706816aba3e25717850c26c store 2 2.2 kind=256/0 -:5000:60:+6869:2:96 \
     -> error 9\n\
+    answer 2.1 ok 256:1\n\
     answer 2.2 error 9\n\
-    end requests=2 decisions=2\n";
+    end frames=8 bytes=1146 clock=0 settled=yes\n";
 
 // Stores that are delivered out of order, and one of them again after the others.
 const OUT_OF_ORDER: &str = "store 2 1 @abc kind=256/0 -:3:60:+03\n\
@@ -26,28 +27,29 @@ const OUT_OF_ORDER: &str = "store 2 1 @abc kind=256/0 -:3:60:+03\n\
     deliver 1\n\
     deliver 3\n\
     deliver 4\n\
-    deliver 2\n";
+    deliver 2\n\
+    drain 100\n";
 
 const KEPT_ANSWER_AGAIN: &str =
     "decide 1 0 a9993e364706816aba3e25717850c26c store 2 2.2 kind=256/0 -:1:60:+01:2:95 \
     -> ok 256:1\n\
-    answer 2.2 ok 256:1\n\
     decide 1 0 a9993e364706816aba3e25717850c26c store 2 2.1 kind=256/0 -:3:60:+03:2:95 \
     -> ok 256:2\n\
-    answer 2.1 ok 256:2\n\
     decide 1 0 a9993e364706816aba3e25717850c26c store 2 2.3 kind=256/0 -:2:60:+02:2:95 -> error 9\n\
-    answer 2.3 error 9\n\
     decide 1 0 a9993e364706816aba3e25717850c26c store 2 2.4 kind=256/0 -:4:60:+04:2:95 \
     -> ok 256:3\n\
-    answer 2.4 ok 256:3\n\
     decide 1 0 a9993e364706816aba3e25717850c26c store 2 2.2 kind=256/0 -:1:60:+01:2:95 \
     -> ok 256:1\n\
-    end requests=4 decisions=5\n";
+    answer 2.2 ok 256:1\n\
+    answer 2.1 ok 256:2\n\
+    answer 2.3 error 9\n\
+    answer 2.4 ok 256:3\n\
+    end frames=19 bytes=2538 clock=0 settled=yes\n";
 
 #[test]
 fn scenarios_have_their_transcripts(rt: HostRuntime) -> Result<(), Fail> {
     let rows = [
-        ("", "end requests=0 decisions=0\n"),
+        ("", "end frames=0 bytes=0 clock=0 settled=yes\n"),
         (THREE_DELIVERIES, ACTS_ONCE),
         (TWO_OF_ONE_TIME, SECOND_TOO_OLD),
         (OUT_OF_ORDER, KEPT_ANSWER_AGAIN),

@@ -252,6 +252,7 @@ fn rows(alloc: Global) -> Result<List<(EventKind, Move)>, NoMemory> {
     let mut rows = List::new(alloc);
     rows.push((EventKind::Clock(1_000), Move::Clock(1_000)))?;
     rows.push((EventKind::Deliver(7), Move::Deliver(7)))?;
+    rows.push((EventKind::Lose(8), Move::Lose(8)))?;
     rows.push((EventKind::Drain(50), Move::Drain(50)))?;
     rows.push(whole_store(alloc)?)?;
     rows.push(bare_store(alloc)?)?;

@@ -204,14 +204,12 @@ fn other_lines(rt: HostRuntime) -> Result<(), Fail> {
         joined.as_slice()
     );
     let mut out = List::new(rt.alloc());
-    put_answer_line(&mut out, 8_589_934_593, &told)?;
-    put_refused_line(&mut out, 7)?;
-    put_end_line(&mut out, 1, 3)?;
     put_bad_line(&mut out, 8)?;
-    let lines = b"answer 2.1 error 20
-refused 7 no-such-frame
-end requests=1 decisions=3
-bad line 8
+    put_air_full_line(&mut out, 268_435_400)?;
+    put_node_full_line(&mut out, 2)?;
+    let lines = b"bad line 8
+air full 268435400
+node full 2
 ";
     assert_eq!(rt; out.as_slice(), lines.as_slice());
     Ok(())

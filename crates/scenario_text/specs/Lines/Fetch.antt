@@ -1,4 +1,4 @@
--- `fetch C P RES [max=N] SPEC..`
+-- `fetch C P RES [ttl=N] [max=N] SPEC..`
 use Rattle.std.specs.Prelude.{◌≡◌, ℕ, ◌-◌, ◌^◌, ◌≤◌, ◌==◌, ◌&&◌, not, Bool, true, false, List, [], ◌∷◌, ◌++◌, length, map, Option, Some, None, IfSome, codes}
 use Rattle.std.specs.List.{AllByRecursion, list_all}
 use Rattle.text_words.specs.Labelled.{labelled_words, optional_of}
@@ -25,31 +25,32 @@ are_asked specifiers =
 abbrev pub fetch_words : FetchEvent → List (List ℕ)
 fetch_words e =
     address_words (record { client = e.client; peer = e.peer; resource = e.resource })
-    (labelled_words (codes "ttl=") e.ttl ++ labelled_words (codes "seq=") e.seq
-    ++ labelled_words (codes "max=") e.max
-    ++ map specifier_text e.specifiers)
+    (labelled_words (codes "ttl=") e.ttl ++ (labelled_words (codes "seq=") e.seq
+    ++ (labelled_words (codes "max=") e.max
+    ++ map specifier_text e.specifiers)))
 
 -- the Fetch that words say
 unfoldable pub fetch_of : List (List ℕ) → Option FetchEvent
 fetch_of words = do
   address ← address_of words
-  max ← optional_of (codes "max=") (2 ^ 32 - 1) address.1
+  ttl ← optional_of (codes "ttl=") 255 address.1
+  max ← optional_of (codes "max=") (2 ^ 32 - 1) ttl.1
   specifiers ← each_of specifier_of max.1
   fits ← allowed (are_asked specifiers)
   Some (record {
     client = address.0.client;
     peer = address.0.peer;
     resource = address.0.resource;
-    ttl = None;
+    ttl = ttl.0;
     seq = None;
     max = max.0;
     specifiers = specifiers;
   })
 
--- a Fetch within its limits; no line says a hop limit or a configuration yet
+-- a Fetch within its limits; no line says a configuration yet
 pub record IsFetch (e : FetchEvent) : Type 0 where
   pub address : IsAddress (record { client = e.client; peer = e.peer; resource = e.resource })
-  pub ttl : e.ttl ≡ None
+  pub ttl : IfSome e.ttl (λ n. n ≤ 255)
   pub seq : e.seq ≡ None
   pub max : IfSome e.max (λ most. most ≤ 2 ^ 32 - 1)
   pub asked : are_asked e.specifiers ≡ true

@@ -1,4 +1,4 @@
-//! `fetch C P RES [max=N] SPEC..`
+//! `fetch C P RES [ttl=N] [max=N] SPEC..`
 
 ghost use Rattle.std.specs.Prelude.{◌≡◌, ◌-◌, ◌^◌, IfOk, codes, option_map};
 ghost use Rattle.std.specs.List.{list_all};
@@ -7,7 +7,7 @@ ghost use Rattle.text_words.specs.Steps.{each_of};
 ghost use Rattle.scenario_text.specs.Lines.Fetch.{are_asked, fetch_of, is_asked};
 ghost use Rattle.request_words.specs.Specifiers.{specifier_of};
 
-use crate::request::{Address, take_address};
+use crate::request::{Address, take_address, take_ttl};
 use crate::scenario::FetchEvent;
 use data_models::Selector;
 use reload_base::{List, NoMemory};
@@ -78,6 +78,9 @@ pub fn fetch_of(alloc: Global, mut words: Pieces<'_>) -> Result<Option<FetchEven
     let Some(address) = take_address(alloc, &mut words)? else {
         return Ok(None);
     };
+    let Some(ttl) = take_ttl(&mut words) else {
+        return Ok(None);
+    };
     let Some(max) = take_max(&mut words) else {
         return Ok(None);
     };
@@ -96,7 +99,7 @@ pub fn fetch_of(alloc: Global, mut words: Pieces<'_>) -> Result<Option<FetchEven
         client,
         peer,
         resource,
-        ttl: None,
+        ttl,
         seq: None,
         max,
         specifiers,

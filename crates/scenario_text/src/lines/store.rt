@@ -1,9 +1,9 @@
-//! `store C P RES GROUP..`
+//! `store C P RES [ttl=N] GROUP..`
 
 ghost use Rattle.std.specs.Prelude.{◌≡◌, IfOk};
 ghost use Rattle.scenario_text.specs.Lines.Store.{store_of};
 
-use crate::request::{Address, take_address};
+use crate::request::{Address, take_address, take_ttl};
 use crate::scenario::StoreEvent;
 use reload_base::NoMemory;
 use request_words::groups_of;
@@ -18,6 +18,9 @@ pub fn store_of(alloc: Global, mut words: Pieces<'_>) -> Result<Option<StoreEven
     let Some(address) = take_address(alloc, &mut words)? else {
         return Ok(None);
     };
+    let Some(ttl) = take_ttl(&mut words) else {
+        return Ok(None);
+    };
     let Some(groups) = groups_of(alloc, words)? else {
         return Ok(None);
     };
@@ -30,7 +33,7 @@ pub fn store_of(alloc: Global, mut words: Pieces<'_>) -> Result<Option<StoreEven
         client,
         peer,
         resource,
-        ttl: None,
+        ttl,
         seq: None,
         groups,
     }))
