@@ -1,18 +1,17 @@
 //! Drawn requests, each of which is answered as the plain program does.
 
+use crate::answers::text_of;
 use crate::draws::Draws;
 use crate::plain::Plain;
 use crate::requests::{Request, kinds};
-use reload_base::NoMemory;
+use crate::seen::{first_rare, put_line, times};
+use reload_base::{Bytes, NoMemory};
 use std::alloc::Global;
 use std::test::Fail;
 use worked_requests::Owner;
 
 /// How many requests are drawn of each seed.
 const REQUESTS: usize = 1000;
-
-/// The codes that requests are answered with.
-const CODES: [u16; 11] = [0, 2, 5, 8, 9, 12, 13, 14, 15, 16, 20];
 
 /// An owner and the plain program, at the same clock in milliseconds.
 #[derive(Drop)]
@@ -34,18 +33,27 @@ impl Both {
     /// Some time passes, once in two times.
     fn wait(&mut self, draws: &mut Draws) {
         if draws.once_in(2) {
-            let ms = draws.draw(800).min(800) as u32;
+            let ms = draws.draw(250).min(250) as u32;
             self.owner.wait(ms);
             self.clock = self.clock.wrapping_add(u64::from(ms));
         }
     }
 
-    /// The code that both answer to a request, or none where they differ.
-    fn answer(&mut self, alloc: Global, request: &Request) -> Result<Option<u16>, NoMemory> {
+    /// What the owner answers to a request, and what the plain program does.
+    fn answers(
+        &mut self,
+        alloc: Global,
+        request: &Request,
+    ) -> Result<(Option<Bytes>, String), NoMemory> {
         let (marks, line) = (request.marks(alloc)?, request.line(alloc)?);
-        let code = self.owner.answer(alloc, marks.as_slice(), &line)?;
-        let want = self.plain.rule(alloc, self.clock, request)?;
-        Ok(code.filter(|code| *code == want))
+        let answer = self
+            .owner
+            .whole_answer(alloc, marks.as_slice(), line.as_bytes())?;
+        let text = match &answer {
+            Some(answer) => Some(text_of(alloc, answer)?),
+            None => None,
+        };
+        Ok((text, self.plain.rule(alloc, self.clock, request)?))
     }
 }
 
@@ -67,12 +75,17 @@ fn draw_request(
     Ok(())
 }
 
-/// The line of the first request of a seed that both answer otherwise. Adds the codes of the ones
-/// before it.
+fn is_text(text: &Option<Bytes>, want: &str) -> bool {
+    text.as_ref()
+        .is_some_and(|text| text.as_slice() == want.as_bytes())
+}
+
+/// The first request of a seed that both answer otherwise, and what the plain program answers. Adds
+/// the lines of the answers before it.
 fn first_difference(
     alloc: Global,
     seed: u64,
-    codes: &mut Vec<u16>,
+    lines: &mut Bytes,
 ) -> Result<Option<String>, NoMemory> {
     let (mut both, mut draws) = (Both::new(alloc)?, Draws::new(seed));
     let mut drawn = Vec::new(alloc);
@@ -80,32 +93,25 @@ fn first_difference(
         both.wait(&mut draws);
         draw_request(alloc, &mut draws, &mut drawn)?;
         if let Some(request) = drawn.get(next_place(&mut draws, drawn.len())) {
-            match both.answer(alloc, request)? {
-                Some(code) => codes.push(code)?,
-                None => return Ok(Some(request.line(alloc)?)),
+            let (text, want) = both.answers(alloc, request)?;
+            if !is_text(&text, &want) {
+                let line = request.line(alloc)?;
+                return Ok(Some(format!(in alloc; "{line}: {want}")?));
             }
+            put_line(alloc, request, &want, lines)?;
         }
     }
     Ok(None)
 }
 
-fn times(codes: &[u16], code: u16) -> usize {
-    codes.iter().filter(|other| **other == code).count()
-}
-
-/// The first of the codes that isn't answered more than 20 times.
-fn first_rare(codes: &[u16]) -> Option<u16> {
-    CODES.into_iter().find(|code| times(codes, *code) <= 20)
-}
-
 #[test]
 fn drawn_requests_are_answered_as_the_plain_program_does(rt: HostRuntime) -> Result<(), Fail> {
     let alloc = rt.alloc();
-    let mut codes = Vec::new(alloc);
-    for seed in 0..4 {
-        assert_eq!(rt; first_difference(alloc, seed, &mut codes)?, None);
+    let mut lines = Bytes::new(alloc);
+    for seed in 0..8 {
+        assert_eq!(rt; first_difference(alloc, seed, &mut lines)?, None);
     }
-    assert_eq!(rt; codes.len(), 4000);
-    assert_eq!(rt; first_rare(codes.as_slice()), None);
+    assert_eq!(rt; times(lines.as_slice(), b"\n"), 8000);
+    assert_eq!(rt; first_rare(lines.as_slice()), None);
     Ok(())
 }

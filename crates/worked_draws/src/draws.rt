@@ -1,9 +1,11 @@
 //! Requests that are drawn.
 
 use crate::requests::{
-    Body, Group, KEYS, Keys, Named, RESOURCES, Request, Specifier, UNKNOWN, Value, kind_at,
+    Body, Group, KEYS, Keys, Named, RESOURCES, Request, Specifier, UNKNOWN, USER_KINDS, Value,
+    kind_at, own_key,
 };
-use data_models::DataModel;
+use access_policy::Policy;
+use data_models::{DataModel, KindDef};
 use reload_base::NoMemory;
 use std::alloc::Global;
 use worked_requests::Asker;
@@ -14,6 +16,11 @@ pub struct Draws {
     seed: u64,
     time: u64,
     transaction: u64,
+}
+
+/// Whether an asker has one slot of a kind at the most.
+fn has_one_slot(kind: KindDef) -> bool {
+    kind.model == DataModel::Single || kind.policy == Policy::UserNodeMatch
 }
 
 impl Draws {
@@ -43,52 +50,72 @@ impl Draws {
         self.draw(times) == 0
     }
 
-    /// An asker and a resource: mostly one of its user.
-    fn place(&mut self) -> (Asker, usize) {
-        let (asker, resource) = match self.draw(4) {
+    /// A client and a resource of its user.
+    fn user_place(&mut self) -> (Asker, usize) {
+        match self.draw(4) {
             0 => (Asker::SecondAbc, 0),
             1 => (Asker::Test, 1),
             _ => (Asker::Abc, 0),
-        };
-        if self.once_in(12) {
-            return (asker, self.pick(RESOURCES.len()));
         }
-        (asker, resource)
     }
 
-    fn key(&mut self, model: DataModel) -> Option<usize> {
-        match model {
+    /// An asker and a resource: mostly ones that a kind's policy permits.
+    fn place(&mut self, kind: usize) -> (Asker, usize) {
+        let (asker, resource) = match kind_at(kind).policy {
+            Policy::UserMatch | Policy::UserNodeMatch => self.user_place(),
+            Policy::NodeMatch => (Asker::Abc, 3),
+            Policy::NodeMultiple => (Asker::Abc, self.pick(3).wrapping_add(4)),
+        };
+        match self.draw(12) {
+            0 => (asker, self.pick(RESOURCES.len())),
+            1 => (Asker::SecondAbc, resource),
+            _ => (asker, resource),
+        }
+    }
+
+    /// A key of a dictionary: mostly one that a kind's policy permits an asker.
+    fn name(&mut self, policy: Policy, asker: Asker) -> usize {
+        if policy == Policy::UserNodeMatch && !self.once_in(6) {
+            own_key(asker)
+        } else {
+            self.pick(KEYS.len())
+        }
+    }
+
+    fn key(&mut self, kind: KindDef, asker: Asker) -> Option<usize> {
+        match kind.model {
             DataModel::Single => Some(0),
             DataModel::Array if self.once_in(2) => None,
             DataModel::Array => Some(self.pick(5)),
-            DataModel::Dictionary => Some(self.pick(KEYS.len())),
+            DataModel::Dictionary => Some(self.name(kind.policy, asker)),
         }
     }
 
-    fn length(&mut self, max: u32) -> usize {
+    fn length(&mut self, max: u32) -> Option<usize> {
         match self.draw(30) {
-            0 => self.pick(50),
-            1..=3 if max > 100_000 => self.pick(20_000).wrapping_add(50_000),
-            _ => self.pick(20),
+            0 => Some(self.pick(50)),
+            1..=2 if max > 100_000 => Some(self.pick(20_000).wrapping_add(50_000)),
+            3..=11 => None,
+            _ => Some(self.pick(20)),
         }
     }
 
-    fn value(&mut self, kind: usize) -> Value {
+    fn value(&mut self, kind: usize, asker: Asker) -> Value {
         let kind = kind_at(kind);
         Value {
-            key: self.key(kind.model),
+            key: self.key(kind, asker),
             time: self.time.wrapping_add(self.draw(4)),
             lifetime: self.draw(6),
             length: self.length(kind.max_size),
         }
     }
 
-    /// A kind: mostly one that the configuration has.
-    fn kind(&mut self) -> usize {
-        if self.once_in(25) {
+    /// The place of a kind below `end`, or once in a while of one that no configuration has.
+    fn kind(&mut self, end: usize) -> usize {
+        if self.once_in(40) {
             UNKNOWN
         } else {
-            self.pick(UNKNOWN)
+            self.pick(end)
         }
     }
 
@@ -96,14 +123,13 @@ impl Draws {
         if self.once_in(6) { self.draw(8) } else { 0 }
     }
 
-    fn group(&mut self, alloc: Global) -> Result<Group, NoMemory> {
-        let kind = self.kind();
+    fn group(&mut self, alloc: Global, kind: usize, asker: Asker) -> Result<Group, NoMemory> {
         let mut values = Vec::new(alloc);
-        values.push(self.value(kind))?;
-        let alone = kind_at(kind).model == DataModel::Single && !self.once_in(20);
+        values.push(self.value(kind, asker))?;
+        let alone = has_one_slot(kind_at(kind)) && !self.once_in(20);
         for _ in 0..3 {
             if !alone && self.once_in(3) {
-                values.push(self.value(kind))?;
+                values.push(self.value(kind, asker))?;
             }
         }
         Ok(Group {
@@ -113,13 +139,15 @@ impl Draws {
         })
     }
 
-    fn store(&mut self, alloc: Global) -> Result<Body, NoMemory> {
+    /// A Store of a kind, and of others of a user's own.
+    fn store(&mut self, alloc: Global, first: usize, asker: Asker) -> Result<Body, NoMemory> {
         self.time = self.time.wrapping_add(1);
         let mut groups = Vec::new(alloc);
-        groups.push(self.group(alloc)?)?;
+        groups.push(self.group(alloc, first, asker)?)?;
         for _ in 0..2 {
             if self.once_in(4) {
-                groups.push(self.group(alloc)?)?;
+                let kind = self.kind(USER_KINDS);
+                groups.push(self.group(alloc, kind, asker)?)?;
             }
         }
         Ok(Body::Store(groups))
@@ -149,8 +177,7 @@ impl Draws {
         Ok(Keys::Names(names))
     }
 
-    fn specifier(&mut self, alloc: Global) -> Result<Specifier, NoMemory> {
-        let kind = self.kind();
+    fn specifier(&mut self, alloc: Global, kind: usize) -> Result<Specifier, NoMemory> {
         let keys = match kind_at(kind).model {
             DataModel::Single => Keys::Whole,
             DataModel::Array => self.ranges(alloc)?,
@@ -163,12 +190,14 @@ impl Draws {
         })
     }
 
-    fn fetch(&mut self, alloc: Global) -> Result<Body, NoMemory> {
+    /// A Fetch of a kind, and of others of a user's own.
+    fn fetch(&mut self, alloc: Global, first: usize) -> Result<Body, NoMemory> {
         let mut specifiers = Vec::new(alloc);
-        specifiers.push(self.specifier(alloc)?)?;
+        specifiers.push(self.specifier(alloc, first)?)?;
         for _ in 0..2 {
             if self.once_in(3) {
-                specifiers.push(self.specifier(alloc)?)?;
+                let kind = self.kind(USER_KINDS);
+                specifiers.push(self.specifier(alloc, kind)?)?;
             }
         }
         let max = if self.once_in(3) {
@@ -181,7 +210,8 @@ impl Draws {
 
     /// A new request.
     pub fn request(&mut self, alloc: Global) -> Result<Request, NoMemory> {
-        let (asker, resource) = self.place();
+        let first = self.kind(UNKNOWN);
+        let (asker, resource) = self.place(first);
         self.transaction = self.transaction.wrapping_add(1);
         let named = match self.draw(60) {
             0 => Named::Older,
@@ -189,9 +219,9 @@ impl Draws {
             _ => Named::Same,
         };
         let body = if self.once_in(3) {
-            self.fetch(alloc)?
+            self.fetch(alloc, first)?
         } else {
-            self.store(alloc)?
+            self.store(alloc, first, asker)?
         };
         Ok(Request {
             asker,

@@ -2,6 +2,8 @@
 #![tactic(auto)]
 
 #[cfg(test)]
+mod answers;
+#[cfg(test)]
 mod compared;
 #[cfg(test)]
 mod draws;
@@ -11,3 +13,5 @@ mod lines;
 mod plain;
 #[cfg(test)]
 mod requests;
+#[cfg(test)]
+mod seen;

@@ -8,7 +8,8 @@ use reload_base::NoMemory;
 use std::alloc::Global;
 use worked_requests::{Mark, SEQUENCE};
 
-fn put(text: &str, out: &mut String) -> Result<(), NoMemory> {
+/// Adds a text.
+pub fn put(text: &str, out: &mut String) -> Result<(), NoMemory> {
     out.push_str(text)?;
     Ok(())
 }
@@ -19,8 +20,8 @@ fn put_name(sign: &str, name: usize, out: &mut String) -> Result<(), NoMemory> {
     put(key_digits(name), out)
 }
 
-/// A key in a Store: that of a single kind is `-`.
-fn put_key(
+/// A key as a word: that of a single kind is `-`.
+pub fn put_key(
     alloc: Global,
     model: DataModel,
     key: Option<usize>,
@@ -42,8 +43,12 @@ fn put_value(
 ) -> Result<(), NoMemory> {
     put(" ", out)?;
     put_key(alloc, model, value.key, out)?;
-    let (time, lifetime, length) = (value.time, value.lifetime, value.length);
-    put(&format!(in alloc; ":{time}:{lifetime}:#{length}")?, out)
+    let (time, lifetime) = (value.time, value.lifetime);
+    put(&format!(in alloc; ":{time}:{lifetime}:")?, out)?;
+    match value.length {
+        Some(length) => put(&format!(in alloc; "#{length}")?, out),
+        None => put("-", out),
+    }
 }
 
 fn put_group(alloc: Global, group: &Group, out: &mut String) -> Result<(), NoMemory> {
@@ -140,7 +145,9 @@ fn fetch_line(alloc: Global, resource: &str, specifiers: &[Specifier]) -> Result
 impl Request {
     /// Its line.
     pub fn line(&self, alloc: Global) -> Result<String, NoMemory> {
-        let resource = RESOURCES.get(self.resource).copied().unwrap_or("");
+        let resource = RESOURCES
+            .get(self.resource)
+            .map_or("", |resource| resource.0);
         match &self.body {
             Body::Store(groups) => store_line(alloc, resource, groups.as_slice()),
             Body::Fetch { specifiers, .. } => fetch_line(alloc, resource, specifiers.as_slice()),

@@ -1,15 +1,19 @@
 //! A plain program of what is decided.
 
 mod fetch;
+mod permits;
 mod sizes;
 mod slots;
 mod sound;
+mod told;
 
-use crate::requests::{Body, Group, Named, Request, UNKNOWN, Value, permits};
+use crate::requests::{Body, Group, Named, Request, UNKNOWN, Value};
+use permits::permits_all;
 use reload_base::NoMemory;
 use slots::{Place, Slot, expire, is_too_large, position, put_values, weight};
 use sound::{is_sound_fetch, is_sound_store};
 use std::alloc::Global;
+use told::{put_counter, told};
 use worked_requests::Asker;
 
 /// How many answers a record keeps.
@@ -27,12 +31,12 @@ struct Count {
 }
 
 /// An answer that a resource keeps.
-#[derive(Clone, Copy)]
+#[derive(Drop)]
 struct Kept {
     resource: usize,
     asker: Asker,
     transaction: u64,
-    code: u16,
+    text: String,
 }
 
 /// What all resources have come to.
@@ -72,6 +76,10 @@ fn is_too_heavy(slots: &[Slot], resource: usize) -> bool {
         sum = sum.wrapping_add(weight(slots, Place { resource, kind }));
     }
     sum > MAX_WEIGHT
+}
+
+fn permits_groups(request: &Request, groups: &[Group]) -> bool {
+    groups.iter().all(|group| permits_all(request.asker, place_of(request, group), group))
 }
 
 fn any_too_large(slots: &[Slot], request: &Request, groups: &[Group]) -> bool {
@@ -155,7 +163,7 @@ impl Plain {
     fn refused(&self, request: &Request, groups: &[Group]) -> u16 {
         if asks_unknown(groups) {
             12
-        } else if !permits(request.asker, request.resource) {
+        } else if !permits_groups(request, groups) {
             2
         } else if self.any_other_generation(request, groups) {
             5
@@ -220,27 +228,26 @@ impl Plain {
         Ok(0)
     }
 
-    /// The code of the answer that is kept for a request: one of the last that its resource gave.
-    fn kept(&self, request: &Request) -> Option<u16> {
+    /// The answer that is kept for a request: one of the last that its resource gave.
+    fn kept(&self, request: &Request) -> Option<&Kept> {
         let mut seen = 0_usize;
-        let mut code = None;
         for kept in self.kept.as_slice().iter().rev() {
             if kept.resource == request.resource && seen < MAX_KEPT {
-                seen = seen.wrapping_add(1);
                 if answers(kept, request) {
-                    code = code.or(Some(kept.code));
+                    return Some(kept);
                 }
+                seen = seen.wrapping_add(1);
             }
         }
-        code
+        None
     }
 
-    fn keep(&mut self, request: &Request, code: u16) -> Result<(), NoMemory> {
+    fn keep(&mut self, alloc: Global, request: &Request, text: &str) -> Result<(), NoMemory> {
         self.kept.push(Kept {
             resource: request.resource,
             asker: request.asker,
             transaction: request.transaction,
-            code,
+            text: String::from_str(alloc, text)?,
         })?;
         Ok(())
     }
@@ -262,42 +269,66 @@ impl Plain {
         }
     }
 
-    /// The code of a Store that makes sense and is signed.
+    /// The answer of a code to a Store. Where it was accepted, or asked for another generation
+    /// counter, each kind's counter is told.
+    fn told_store(
+        &self,
+        alloc: Global,
+        code: u16,
+        request: &Request,
+        groups: &[Group],
+    ) -> Result<String, NoMemory> {
+        let mut text = told(alloc, code)?;
+        if code != 0 && code != 5 {
+            return Ok(text);
+        }
+        for group in groups {
+            let count = self.count(place_of(request, group));
+            put_counter(alloc, group.kind, count.generation, &mut text)?;
+        }
+        Ok(text)
+    }
+
+    /// The answer to a Store that makes sense and is signed.
     fn store(
         &mut self,
         alloc: Global,
         now: u64,
         request: &Request,
         groups: &[Group],
-    ) -> Result<u16, NoMemory> {
-        match (self.kept(request), request.named) {
-            (Some(code), _) => Ok(code),
-            (None, Named::Older) => Ok(15),
-            (None, Named::Newer) => Ok(16),
-            (None, Named::Same) => {
+    ) -> Result<String, NoMemory> {
+        if let Some(kept) = self.kept(request) {
+            return Ok(String::from_str(alloc, &kept.text)?);
+        }
+        match request.named {
+            Named::Older => told(alloc, 15),
+            Named::Newer => told(alloc, 16),
+            Named::Same => {
                 let code = self.store_anew(alloc, now, request, groups)?;
-                self.keep(request, code)?;
-                Ok(code)
+                let text = self.told_store(alloc, code, request, groups)?;
+                self.keep(alloc, request, &text)?;
+                Ok(text)
             }
         }
     }
 
-    /// The code that is answered to a request, at a clock in milliseconds.
-    pub fn rule(&mut self, alloc: Global, now: u64, request: &Request) -> Result<u16, NoMemory> {
+    /// The answer to a request, at a clock in milliseconds: `CODE KIND:GENERATION..`, or `found`
+    /// and what a Fetch is given, in the words of a transcript.
+    pub fn rule(&mut self, alloc: Global, now: u64, request: &Request) -> Result<String, NoMemory> {
         let sound = match &request.body {
             Body::Store(groups) => is_sound_store(groups.as_slice()),
             Body::Fetch { specifiers, .. } => is_sound_fetch(specifiers.as_slice()),
         };
         if request.misplaced || !sound {
-            return Ok(20);
+            return told(alloc, 20);
         }
         if request.spoilt {
-            return Ok(2);
+            return told(alloc, 2);
         }
         match &request.body {
             Body::Store(groups) => self.store(alloc, now, request, groups.as_slice()),
             Body::Fetch { max, specifiers } => {
-                Ok(self.fetch(now, request, *max, specifiers.as_slice()))
+                self.fetch(alloc, now, request, *max, specifiers.as_slice())
             }
         }
     }

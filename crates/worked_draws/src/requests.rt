@@ -4,18 +4,34 @@ use access_policy::Policy;
 use data_models::{DataModel, KindDef};
 use worked_requests::Asker;
 
-/// Kinds of each model for a user, and one of values of which two weigh more than a record may.
-pub fn kinds() -> [KindDef; 5] {
+/// How many kinds there are for a user's own resource: they come first.
+pub const USER_KINDS: usize = 6;
+
+/// Kinds of each policy, and of each model. A record may not weigh as much as two values of some.
+pub fn kinds() -> [KindDef; 8] {
     [
-        kind(256, DataModel::Single, 1, 40),
-        kind(257, DataModel::Array, 4, 20),
-        kind(258, DataModel::Dictionary, 3, 20),
-        kind(259, DataModel::Single, 1, 140_000),
-        kind(260, DataModel::Array, 2, 140_000),
+        user_kind(256, DataModel::Single, 1, 40),
+        user_kind(257, DataModel::Array, 4, 20),
+        user_kind(258, DataModel::Dictionary, 5, 140_000),
+        user_kind(259, DataModel::Single, 1, 140_000),
+        user_kind(260, DataModel::Array, 8, 140_000),
+        KindDef {
+            policy: Policy::UserNodeMatch,
+            ..user_kind(261, DataModel::Dictionary, 16, 20)
+        },
+        KindDef {
+            policy: Policy::NodeMatch,
+            ..user_kind(262, DataModel::Array, 1024, 20)
+        },
+        KindDef {
+            policy: Policy::NodeMultiple,
+            multiple: 2,
+            ..user_kind(263, DataModel::Single, 1, 40)
+        },
     ]
 }
 
-fn kind(id: u32, model: DataModel, max_count: u32, max_size: u32) -> KindDef {
+fn user_kind(id: u32, model: DataModel, max_count: u32, max_size: u32) -> KindDef {
     KindDef {
         id,
         model,
@@ -27,44 +43,76 @@ fn kind(id: u32, model: DataModel, max_count: u32, max_size: u32) -> KindDef {
 }
 
 /// The place of a kind that no configuration has, and its Kind-ID.
-pub const UNKNOWN: usize = 5;
+pub const UNKNOWN: usize = 8;
 
 /// The Kind-ID of the kind that no configuration has.
 pub const UNKNOWN_ID: u32 = 9;
 
 /// The kind at a place of the list, and another one at the place behind it.
 pub fn kind_at(place: usize) -> KindDef {
-    let other = kind(UNKNOWN_ID, DataModel::Single, 0, 0);
+    let other = user_kind(UNKNOWN_ID, DataModel::Single, 0, 0);
     kinds().get(place).copied().unwrap_or(other)
 }
 
-/// The resources: those of two users, and one of nobody.
-pub const RESOURCES: [&str; 3] = ["@abc", "@test", "@nobody"];
+/// What hashes to a resource.
+#[derive(Clone, Copy)]
+pub enum Hashed {
+    /// The name of a user.
+    User(&'static str),
+    /// The Node-ID of the first client.
+    Node,
+    /// That with a number behind it.
+    NumberedNode(u32),
+}
 
-/// The keys of a dictionary, as digits.
-pub const KEYS: [&str; 5] = ["", "61", "6162", "62", "616263646566"];
+/// The resources: those of two users, one of nobody, and those of a node, by SHA-1.
+pub const RESOURCES: [(&str, Hashed); 7] = [
+    ("@abc", Hashed::User("abc")),
+    ("@test", Hashed::User("test")),
+    ("@nobody", Hashed::User("nobody")),
+    ("c5297f1ddea8a76b04b5b395de1162b4", Hashed::Node),
+    ("5691f0c999ae91914ecafb9eca2f44bf", Hashed::NumberedNode(1)),
+    ("93d43dec8aa14177b8f1637589dff290", Hashed::NumberedNode(2)),
+    ("1a2fef92b6863d8f85f8be1147d5dc61", Hashed::NumberedNode(3)),
+];
+
+/// The keys of a dictionary, as digits, in the order of their bytes.
+pub const KEYS: [&str; 9] = [
+    "",
+    "30000000000000000000000000000000",
+    "40000000000000000000000000000000",
+    "50000000000000000000000000000000",
+    "61",
+    "6162",
+    "616263646566",
+    "62",
+    "80000000000000000000000000000000",
+];
+
+/// The place of the key that is an asker's Node-ID.
+pub fn own_key(asker: Asker) -> usize {
+    match asker {
+        Asker::Test => 1,
+        Asker::Abc => 2,
+        Asker::SecondAbc => 3,
+        Asker::Peer => 8,
+    }
+}
 
 /// The digits of the key at a place of the list.
 pub fn key_digits(place: usize) -> &'static str {
     KEYS.get(place).copied().unwrap_or("")
 }
 
-/// Whether an asker's user may store at a resource.
-pub fn permits(asker: Asker, resource: usize) -> bool {
-    match asker {
-        Asker::Abc | Asker::SecondAbc | Asker::Peer => resource == 0,
-        Asker::Test => resource == 1,
-    }
-}
-
-/// A value of a Store, of so many bytes. An appended one has no key; a single one has the key 0,
-/// and one of a dictionary the place of its key.
+/// A value of a Store, of so many bytes, each an `a`, or none where it says that there is no value.
+/// An appended one has no key; a single one has the key 0, and one of a dictionary the place of its
+/// key.
 #[derive(Clone, Copy)]
 pub struct Value {
     pub key: Option<usize>,
     pub time: u64,
     pub lifetime: u64,
-    pub length: usize,
+    pub length: Option<usize>,
 }
 
 /// The values of a kind.
@@ -121,4 +169,18 @@ pub struct Request {
     pub spoilt: bool,
     pub misplaced: bool,
     pub body: Body,
+}
+
+impl Request {
+    /// The place of the kind that it names first.
+    pub fn first_kind(&self) -> usize {
+        match &self.body {
+            Body::Store(groups) => groups.first().map_or(UNKNOWN, |group| group.kind),
+            Body::Fetch { specifiers, .. } => {
+                specifiers
+                    .first()
+                    .map_or(UNKNOWN, |specifier| specifier.kind)
+            }
+        }
+    }
 }

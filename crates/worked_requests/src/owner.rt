@@ -110,7 +110,7 @@ fn code_of(answer: &Answer) -> u16 {
     }
 }
 
-/// The code that is answered to a question. No record changed more often than there were rulings.
+/// The answer to a question. No record changed more often than there were rulings.
 fn ruled(
     alloc: Global,
     shelf: &mut Shelf,
@@ -118,7 +118,7 @@ fn ruled(
     config: &Config,
     now: u64,
     q: &Question,
-) -> Result<u16, NoMemory>
+) -> Result<Answer, NoMemory>
     requires clock { now < 2 ^ 62 }
     requires few { rulings.old < 2 ^ 62 }
     requires within { (r : ℕ) → IsWithin rulings.old (record_in shelf.old r) }
@@ -129,7 +129,7 @@ fn ruled(
     let ruling = rule_on(
         alloc, shelf, config, now, q.resource, q.origin, q.id, &q.asked,
     )?;
-    Ok(code_of(&ruling.answer))
+    Ok(ruling.answer)
 }
 
 impl Owner {
@@ -148,16 +148,15 @@ impl Owner {
         self.clock = self.clock.saturating_add(u64::from(ms));
     }
 
-    /// The code that is answered to a message, or 0 where it isn't refused. `None` where it is no
-    /// message for a resource.
-    pub fn hear(&mut self, alloc: Global, message: &[u8]) -> Result<Option<u16>, NoMemory> {
+    /// The answer to a message. `None` where it is no message for a resource.
+    fn hear(&mut self, alloc: Global, message: &[u8]) -> Result<Option<Answer>, NoMemory> {
         let Some(question) = question_of(alloc, &self.config, message)? else {
             return Ok(None);
         };
         if self.rulings >= MOST || self.clock >= MOST {
             return Ok(None);
         }
-        let code = ruled(
+        let answer = ruled(
             alloc,
             &mut self.shelf,
             &mut self.rulings,
@@ -165,11 +164,24 @@ impl Owner {
             self.clock,
             &question,
         )?;
-        Ok(Some(code))
+        Ok(Some(answer))
     }
 
-    /// The code that is answered to a request in words. `None` where they say none that has a
-    /// spelling.
+    /// The answer to a request in words. `None` where they say none that has a spelling.
+    pub fn whole_answer(
+        &mut self,
+        alloc: Global,
+        marks: &[Mark],
+        line: &[u8],
+    ) -> Result<Option<Answer>, NoMemory> {
+        match made(alloc, self.rulings, marks, line)? {
+            Some(message) => self.hear(alloc, message.as_slice()),
+            None => Ok(None),
+        }
+    }
+
+    /// The code that is answered to a request in words, or 0 where it isn't refused. `None` where
+    /// they say none that has a spelling.
     pub fn answer(
         &mut self,
         alloc: Global,
@@ -186,9 +198,7 @@ impl Owner {
         marks: &[Mark],
         line: &[u8],
     ) -> Result<Option<u16>, NoMemory> {
-        match made(alloc, self.rulings, marks, line)? {
-            Some(message) => self.hear(alloc, message.as_slice()),
-            None => Ok(None),
-        }
+        let answer = self.whole_answer(alloc, marks, line)?;
+        Ok(answer.map(|answer| code_of(&answer)))
     }
 }

@@ -3,13 +3,51 @@
 use crate::plain::Plain;
 use crate::plain::sizes::gap_size;
 use crate::plain::slots::{Held, Place, live, next_index};
-use crate::requests::{KEYS, Keys, Named, Request, Specifier, UNKNOWN};
+use crate::plain::told::{put_found, put_head, told};
+use crate::requests::{KEYS, Keys, Named, Request, Specifier, UNKNOWN, Value};
+use reload_base::NoMemory;
+use std::alloc::Global;
 
 /// How long an answer is at the most.
 const MAX_ANSWER: usize = 200_000;
 
+/// What is given so far: its text, and the bytes of the contents that tell it.
+#[derive(Drop)]
+struct Given {
+    text: String,
+    size: usize,
+}
+
 fn fetches_unknown(specifiers: &[Specifier]) -> bool {
     specifiers.iter().any(|specifier| specifier.kind == UNKNOWN)
+}
+
+/// What stands where no value is.
+fn gap(key: usize) -> Value {
+    Value {
+        key: Some(key),
+        time: 0,
+        lifetime: 0,
+        length: None,
+    }
+}
+
+/// The seconds to a time, of which a part counts as a whole one.
+fn seconds_to(expiry: u64, now: u64) -> u64 {
+    expiry.wrapping_sub(now).wrapping_add(999) / 1000
+}
+
+impl Given {
+    fn give(&mut self, alloc: Global, kind: usize, held: Held, now: u64) -> Result<(), NoMemory> {
+        self.size = self.size.wrapping_add(held.size);
+        let left = seconds_to(held.expiry, now);
+        put_found(alloc, kind, held.value, left, &mut self.text)
+    }
+
+    fn give_gap(&mut self, alloc: Global, kind: usize, key: usize) -> Result<(), NoMemory> {
+        self.size = self.size.wrapping_add(gap_size(kind, key));
+        put_found(alloc, kind, gap(key), 0, &mut self.text)
+    }
 }
 
 impl Plain {
@@ -19,109 +57,114 @@ impl Plain {
         live(slot.held, now)
     }
 
-    /// The bytes of the value of a slot, or of a gap where none is.
-    fn given_size(&self, now: u64, place: Place, key: usize) -> usize {
-        match self.held(now, place, key) {
-            Some(held) => held.size,
-            None => gap_size(place.kind, key),
-        }
-    }
-
-    /// The bytes of the values of a range, up to the greatest index.
-    fn range_size(&self, now: u64, place: Place, range: (usize, usize)) -> usize {
-        let mut size = 0_usize;
-        for key in 0..next_index(self.slots.as_slice(), place) {
-            if range.0 <= key && key <= range.1 {
-                size = size.wrapping_add(self.given_size(now, place, key));
-            }
-        }
-        size
-    }
-
-    fn ranges_size(&self, now: u64, place: Place, ranges: &[(usize, usize)]) -> usize {
-        let mut size = 0_usize;
+    /// The indices of the ranges, up to the greatest one.
+    fn indices(
+        &self,
+        alloc: Global,
+        place: Place,
+        ranges: &[(usize, usize)],
+    ) -> Result<Vec<usize>, NoMemory> {
+        let mut keys = Vec::new(alloc);
         for range in ranges {
-            size = size.wrapping_add(self.range_size(now, place, *range));
-        }
-        size
-    }
-
-    /// The bytes of all values of a dictionary that aren't expired.
-    fn live_size(&self, now: u64, place: Place) -> usize {
-        let mut size = 0_usize;
-        for key in 0..KEYS.len() {
-            if let Some(held) = self.held(now, place, key) {
-                size = size.wrapping_add(held.size);
+            for key in 0..next_index(self.slots.as_slice(), place) {
+                if range.0 <= key && key <= range.1 {
+                    keys.push(key)?;
+                }
             }
         }
-        size
+        Ok(keys)
     }
 
-    /// The bytes of the values under these keys of a dictionary, or of all where there is none.
-    fn names_size(&self, now: u64, place: Place, names: &[usize]) -> usize {
-        if names.is_empty() {
-            return self.live_size(now, place);
+    /// The keys of a dictionary's values that aren't expired.
+    fn live_keys(&self, alloc: Global, now: u64, place: Place) -> Result<Vec<usize>, NoMemory> {
+        let mut keys = Vec::new(alloc);
+        for key in 0..KEYS.len() {
+            if self.held(now, place, key).is_some() {
+                keys.push(key)?;
+            }
         }
-        let mut size = 0_usize;
-        for name in names {
-            size = size.wrapping_add(self.given_size(now, place, *name));
-        }
-        size
+        Ok(keys)
     }
 
-    /// The bytes of the values that a specifier asks for.
-    fn values_size(&self, now: u64, place: Place, keys: &Keys) -> usize {
-        match keys {
-            Keys::Whole => self.given_size(now, place, 0),
-            Keys::Ranges(ranges) => self.ranges_size(now, place, ranges.as_slice()),
-            Keys::Names(names) => self.names_size(now, place, names.as_slice()),
+    /// The keys that a specifier asks for.
+    fn keys(
+        &self,
+        alloc: Global,
+        now: u64,
+        place: Place,
+        asked: &Keys,
+    ) -> Result<Vec<usize>, NoMemory> {
+        match asked {
+            Keys::Whole => Ok(vec![in alloc; 0; 1]?),
+            Keys::Ranges(ranges) => self.indices(alloc, place, ranges.as_slice()),
+            Keys::Names(names) if names.is_empty() => self.live_keys(alloc, now, place),
+            Keys::Names(names) => Ok(names.as_slice().to_vec(alloc)?),
         }
     }
 
-    /// The bytes of a specifier's kind in an answer.
-    fn kind_size(&self, now: u64, resource: usize, specifier: &Specifier) -> usize {
-        let (kind, generation) = (specifier.kind, specifier.generation);
+    /// Gives the values that a specifier asks for, or nothing where they are known.
+    fn give_kind(
+        &self,
+        alloc: Global,
+        now: u64,
+        resource: usize,
+        specifier: &Specifier,
+        given: &mut Given,
+    ) -> Result<(), NoMemory> {
+        let kind = specifier.kind;
         let place = Place { resource, kind };
-        if generation != 0 && generation == self.count(place).generation {
-            return 16;
+        let generation = self.count(place).generation;
+        given.size = given.size.wrapping_add(16);
+        put_head(alloc, kind, generation, &mut given.text)?;
+        if specifier.generation != 0 && specifier.generation == generation {
+            return Ok(());
         }
-        let values = self.values_size(now, place, &specifier.keys);
-        values.wrapping_add(16)
+        for key in self.keys(alloc, now, place, &specifier.keys)?.as_slice() {
+            match self.held(now, place, *key) {
+                Some(held) => given.give(alloc, kind, held, now)?,
+                None => given.give_gap(alloc, kind, *key)?,
+            }
+        }
+        Ok(())
     }
 
-    /// The bytes of the contents of an answer.
-    fn answer_size(&self, now: u64, resource: usize, specifiers: &[Specifier]) -> usize {
-        let mut size = 14_usize;
+    /// The answer to a Fetch that asks for kinds that the configuration has.
+    fn found(
+        &self,
+        alloc: Global,
+        now: u64,
+        resource: usize,
+        max: u32,
+        specifiers: &[Specifier],
+    ) -> Result<String, NoMemory> {
+        let mut given = Given {
+            text: String::from_str(alloc, "found")?,
+            size: 14,
+        };
         for specifier in specifiers {
-            size = size.wrapping_add(self.kind_size(now, resource, specifier));
+            self.give_kind(alloc, now, resource, specifier, &mut given)?;
         }
-        size
+        if given.size > MAX_ANSWER || (max != 0 && given.size > max as usize) {
+            return told(alloc, 14);
+        }
+        Ok(given.text)
     }
 
-    /// The code of a Fetch that asks for kinds that the configuration has.
-    fn fetched(&self, now: u64, resource: usize, max: u32, specifiers: &[Specifier]) -> u16 {
-        let size = self.answer_size(now, resource, specifiers);
-        if size > MAX_ANSWER || (max != 0 && size > max as usize) {
-            14
-        } else {
-            0
-        }
-    }
-
-    /// The code of a Fetch that makes sense and is signed.
+    /// The answer to a Fetch that makes sense and is signed.
     pub(super) fn fetch(
         &self,
+        alloc: Global,
         now: u64,
         request: &Request,
         max: u32,
         specifiers: &[Specifier],
-    ) -> u16 {
+    ) -> Result<String, NoMemory> {
         match request.named {
-            Named::Older => 15,
-            Named::Newer => 16,
-            Named::Same if request.critical => 13,
-            Named::Same if fetches_unknown(specifiers) => 12,
-            Named::Same => self.fetched(now, request.resource, max, specifiers),
+            Named::Older => told(alloc, 15),
+            Named::Newer => told(alloc, 16),
+            Named::Same if request.critical => told(alloc, 13),
+            Named::Same if fetches_unknown(specifiers) => told(alloc, 12),
+            Named::Same => self.found(alloc, now, request.resource, max, specifiers),
         }
     }
 }

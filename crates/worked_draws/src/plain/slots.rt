@@ -12,9 +12,10 @@ pub struct Place {
     pub kind: usize,
 }
 
-/// A value that is held: the bytes of its StoredData, and the clock at which it is expired.
+/// A value that is held under its key, the bytes of its StoredData, and the clock at which it is expired.
 #[derive(Clone, Copy)]
 pub struct Held {
+    pub value: Value,
     pub size: usize,
     pub expiry: u64,
 }
@@ -72,7 +73,11 @@ fn put_slot(slots: &mut Vec<Slot>, slot: Slot) -> Result<(), NoMemory> {
 /// The slot of a value that is put.
 fn slot_of(place: Place, key: usize, now: u64, value: Value) -> Slot {
     let held = Held {
-        size: stored_size(place.kind, key, value.length),
+        value: Value {
+            key: Some(key),
+            ..value
+        },
+        size: stored_size(place.kind, key, value.length.unwrap_or(0)),
         expiry: now.wrapping_add(value.lifetime.wrapping_mul(1000)),
     };
     Slot {
@@ -143,7 +148,9 @@ fn count(slots: &[Slot], place: Place) -> usize {
 }
 
 fn are_too_long(values: &[Value], longest: usize) -> bool {
-    values.iter().any(|value| longest < value.length)
+    values
+        .iter()
+        .any(|value| longest < value.length.unwrap_or(0))
 }
 
 /// Whether a value stands behind the last index of an array that may be, where `next` is the
