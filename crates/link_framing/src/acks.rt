@@ -1,6 +1,6 @@
 //! Which payloads were heard, and the acks that say so.
 
-ghost use Rattle.std.specs.Prelude.{◌≡◌, ◌≢◌, ◌<◌, ◌^◌, ℕ, IfOk, OnOk, OnErr, if◌then◌else◌};
+ghost use Rattle.std.specs.Prelude.{◌≡◌, ◌≢◌, ◌+◌, ◌<◌, ◌≤◌, ◌^◌, ℕ, true, false, IfOk, OnOk, OnErr, if◌then◌else◌};
 ghost use Rattle.std.specs.Int.{bit_at};
 ghost use Rattle.std.specs.FinSet as set;
 ghost use Rattle.link_framing.specs.Acked.{heard_before, IsMask};
@@ -13,28 +13,34 @@ use std::marker::Model;
 /// The sequences of the payloads that were heard from one node. Contracts see their set.
 #[derive(Debug, Drop)]
 pub struct Acks {
-    heard: BTreeSet<u32>,
+    /// Each payload from 1 up to this one was heard.
+    front: u32,
+    /// The others that were. Payloads that come in their order take no memory here.
+    others: BTreeSet<u32>,
 }
 
 impl Model for Acks {
     ghost use Rattle.std.specs.Ordering.{nat_cmp};
     ghost use Rattle.std.specs.Coded.{coded_ℕ};
     ghost use Rattle.std.specs.FinSet as set;
+    ghost use Rattle.link_framing.specs.Acked.{heard_up_to};
 
     ghost Value = { set.FinSet nat_cmp };
 
     ghost coded = { set.code coded_ℕ };
 
-    ghost view = { λ a. set.from_list a.heard.keys };
+    ghost view = { λ a. heard_up_to a.front (set.from_list a.others.keys) };
 }
 
 impl Acks {
     /// Nothing was heard yet.
+    #[tactic(auto, unfolding(crate::specs::Acked::heard_up_to))]
     pub fn new(alloc: Global) -> Acks
         ensures { result ≡ set.empty }
     {
         Acks {
-            heard: BTreeSet::new(alloc),
+            front: 0,
+            others: BTreeSet::new(alloc),
         }
     }
 
@@ -44,7 +50,8 @@ impl Acks {
         ensures { IsMask self.now n result }
     {
         let mut mask = 0;
-        for k in 1..32 {
+        let end = if n < 32 { n + 1 } else { 32 };
+        for k in 1..end {
             mask = with_bit(mask, k, self.heard_before(n, k));
         }
         mask
@@ -65,7 +72,11 @@ impl Acks {
         ensures ok { OnOk result (self.new ≡ set.insert self.old n) }
         ensures err { OnErr result (self.new ≡ self.old) }
     {
-        self.heard.insert(n)?;
+        if follows(self.front, n) {
+            self.front = n;
+            return Ok(());
+        }
+        self.others.insert(n)?;
         Ok(())
     }
 
@@ -79,8 +90,26 @@ impl Acks {
     fn has(&self, n: u32) -> bool
         ensures { result ≡ set.contains self.now n }
     {
-        self.heard.contains(&n)
+        if is_within(self.front, n) {
+            return true;
+        }
+        self.others.contains(&n)
     }
+}
+
+/// Whether payload `n` is one of those up to a front.
+fn is_within(front: u32, n: u32) -> bool
+    ensures there { result ≡ true → (1 ≤ n) × (n ≤ front) }
+    ensures elsewhere { result ≡ false → 1 ≤ n → front < n }
+{
+    1 <= n && n <= front
+}
+
+/// Whether payload `n` is the one behind a front.
+fn follows(front: u32, n: u32) -> bool
+    ensures { result ≡ true → n ≡ front + 1 }
+{
+    front < n && n - 1 == front
 }
 
 /// The mask with bit `k`, which isn't set yet, as told.

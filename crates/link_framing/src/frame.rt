@@ -1,6 +1,6 @@
 //! The frames of a link.
 
-ghost use Rattle.std.specs.Prelude.{◌≡◌, ◌++◌, IfOk, OnOk};
+ghost use Rattle.std.specs.Prelude.{◌≡◌, ◌++◌, length, IfOk, OnOk};
 ghost use Rattle.link_framing.specs.Framing.{frame, IsWithin};
 ghost use Rattle.link_framing.specs.Views.{seen};
 
@@ -75,8 +75,21 @@ pub fn encode_frame(alloc: Global, f: &Frame) -> Result<Bytes, NoMemory>
     ensures { IfOk result (λ bytes. bytes ≡ frame f.now) }
 {
     let mut out = Bytes::new(alloc);
+    out.reserve(len(f))?;
     put_frame(&mut out, f)?;
     Ok(out)
+}
+
+/// The number of bytes of a frame.
+#[tactic(auto, using(wire_core::proofs::Puts::lengths), unfolding(crate::specs::Framing::frame))]
+fn len(f: &Frame) -> usize
+    requires { IsWithin f.now }
+    ensures { result ≡ length (frame f.now) }
+{
+    match f {
+        Frame::Payload { message, .. } => 8 + message.len(),
+        Frame::Ack { .. } => 9,
+    }
 }
 
 /// Adds the bytes of a frame. After `NoMemory` a front of them may stand there.

@@ -1,6 +1,7 @@
-use Rattle.std.proofs.Common.{cond, ap, ◌∙◌, arith}
+use Rattle.std.proofs.Common.{cond, ap, sym, ◌∙◌, inl, inr, arith}
+use Rattle.std.proofs.lemmas.Bool.{cases_lt}
 use Rattle.link_framing.specs.Acked.{heard_before}
-use Rattle.link_framing.proofs.Heard.{bits_more}
+use Rattle.link_framing.proofs.Heard.{bits_more, none_before}
 use Rattle.link_framing.proofs.acks.Acks.mask.Goals as goal
 
 pub loop-k-preserved : goal.loop-k-preserved
@@ -19,5 +20,8 @@ pub returns : goal.returns
 returns c = record {
   small = c.loop-k.invariant.small;
   lowest = c.loop-k.invariant.lowest;
-  marks = λ k low high. c.loop-k.invariant.below k low (omega arith);
+  marks = λ k low high. elim (cases_lt k c.loop-k.k) [
+    | inl lt ↦ c.loop-k.invariant.below k low lt
+    | inr le ↦ c.loop-k.invariant.above k le ∙ sym (none_before c.args.self.now c.args.n k (omega (arith, low, high, le)))
+  ];
 }
