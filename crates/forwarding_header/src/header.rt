@@ -1,6 +1,6 @@
 //! The header in front of each message.
 
-ghost use Rattle.std.specs.Prelude.{◌≡◌, ◌↔◌, ◌++◌, IsTrue, IfOk, OnOk};
+ghost use Rattle.std.specs.Prelude.{◌≡◌, ◌↔◌, ◌++◌, length, take, IsTrue, IfOk, OnOk, OnErr};
 ghost use Rattle.wire_core.specs.Reading.{Reads, Decodes};
 ghost use Rattle.forwarding_header.specs.Header.{fixed, lists, header, IsSpelledHeader, message_length_at, fixed_at, lists_at, header_at};
 
@@ -24,6 +24,9 @@ pub const WHOLE: u32 = 0xc000_0000;
 
 /// The most bytes that each of the three lists may have (this profile).
 pub const MAX_HEADER_LIST: u32 = 4096;
+
+/// The bytes of a header without its lists.
+const FIXED: usize = 38;
 
 /// The forwarding header (RFC 6940, section 6.3.2). The token, the version and the fragment field
 /// are the same in each message of this profile.
@@ -130,9 +133,10 @@ pub fn fits(h: &Header) -> bool
         && list_len(&h.options) <= u64::from(MAX_HEADER_LIST)
 }
 
-#[tactic(auto, unfolding(crate::specs::Header::fixed))]
+#[tactic(auto, using(wire_core::proofs::Puts::fronts), unfolding(crate::specs::Header::fixed))]
 fn put_fixed(out: &mut Bytes, h: &Header) -> Result<(), NoMemory>
-    ensures { OnOk result (out.new ≡ out.old ++ fixed h.now) }
+    ensures ok { OnOk result (out.new ≡ out.old ++ fixed h.now) }
+    ensures err { OnErr result (take (length out.old) out.new ≡ out.old) }
 {
     put_u32(out, TOKEN)?;
     put_u32(out, h.overlay)?;
@@ -145,10 +149,11 @@ fn put_fixed(out: &mut Bytes, h: &Header) -> Result<(), NoMemory>
     put_u32(out, h.max_response)
 }
 
-#[tactic(auto, unfolding(crate::specs::Header::lists))]
+#[tactic(auto, using(wire_core::proofs::Puts::fronts), unfolding(crate::specs::Header::lists))]
 fn put_lists(out: &mut Bytes, h: &Header) -> Result<(), NoMemory>
     requires { IsSpelledHeader h.now }
-    ensures { OnOk result (out.new ≡ out.old ++ lists h.now) }
+    ensures ok { OnOk result (out.new ≡ out.old ++ lists h.now) }
+    ensures err { OnErr result (take (length out.old) out.new ≡ out.old) }
 {
     put_u16(out, list_len(&h.via) as u16)?;
     put_u16(out, list_len(&h.dest) as u16)?;
@@ -158,13 +163,33 @@ fn put_lists(out: &mut Bytes, h: &Header) -> Result<(), NoMemory>
     put_list(out, &h.options)
 }
 
+/// The number of bytes of a header.
+#[tactic(auto, using(wire_core::proofs::Puts::lengths), unfolding(crate::specs::Header::fixed, crate::specs::Header::lists))]
+fn len(h: &Header) -> usize
+    requires { IsSpelledHeader h.now }
+    ensures { result ≡ length (header h.now) }
+{
+    FIXED + (list_len(&h.via) + list_len(&h.dest) + list_len(&h.options)) as usize
+}
+
+/// Adds the one spelling of a header. After `NoMemory` the bytes still begin with what was there.
+#[tactic(auto, using(wire_core::proofs::Puts::fronts))]
+pub fn put_header(out: &mut Bytes, h: &Header) -> Result<(), NoMemory>
+    requires { IsSpelledHeader h.now }
+    ensures ok { OnOk result (out.new ≡ out.old ++ header h.now) }
+    ensures err { OnErr result (take (length out.old) out.new ≡ out.old) }
+{
+    put_fixed(out, h)?;
+    put_lists(out, h)
+}
+
 /// The one spelling of a header.
 pub fn encode_header(alloc: Global, h: &Header) -> Result<Bytes, NoMemory>
     requires { IsSpelledHeader h.now }
     ensures { IfOk result (λ bytes. bytes ≡ header h.now) }
 {
     let mut out = Bytes::new(alloc);
-    put_fixed(&mut out, h)?;
-    put_lists(&mut out, h)?;
+    out.reserve(len(h))?;
+    put_header(&mut out, h)?;
     Ok(out)
 }

@@ -12,5 +12,5 @@ pub use destination::{Destination, MAX_OPAQUE};
 pub use forwarding_option::{
     DESTINATION_CRITICAL, FORWARD_CRITICAL, ForwardingOption, OTHER_FLAGS, RESPONSE_COPY,
 };
-pub use header::{Header, MAX_HEADER_LIST, encode_header, fits};
+pub use header::{Header, MAX_HEADER_LIST, encode_header, fits, put_header};
 pub use way_back::reversed;

@@ -1,6 +1,6 @@
 //! What becomes of a request that a peer hears.
 
-ghost use Rattle.std.specs.Prelude.{◌≡◌, ◌<◌, ◌≤◌, ◌^◌, length, IfOk};
+ghost use Rattle.std.specs.Prelude.{◌≡◌, ◌<◌, ◌≤◌, ◌^◌, ◌++◌, [], ◌∷◌, length, IfOk};
 ghost use Rattle.forwarding_header.specs.Destinations.{destinations};
 ghost use Rattle.forwarding_header.specs.Header.{IsSpelledHeader, IsHeaderInRange};
 ghost use Rattle.node_model.specs.Heard.{ttl_of};
@@ -15,10 +15,27 @@ use chord_tables::Tables;
 use forwarding_header::{Destination, FORWARD_CRITICAL, Header};
 use node_model::{Course, MAX_REQUEST, MAX_VIA, PeerState};
 use peer_routing::{Hop, next_hop};
-use reload_base::{NoMemory, TryCopy};
+use reload_base::{List, NoMemory, TryCopy};
 use reload_ids::{NodeId, ResourceId};
 use std::alloc::Global;
 use storage_model::Refusal;
+
+/// A via list with a node more, in memory that is found once.
+fn with_node(
+    alloc: Global,
+    before: &List<Destination>,
+    from: NodeId,
+) -> Result<List<Destination>, NoMemory>
+    ensures { IfOk result (λ via. via ≡ before.now ++ Destination.Node from ∷ []) }
+{
+    let mut via = List::new(alloc);
+    via.reserve(before.len().saturating_add(1))?;
+    for entry in before.as_slice() {
+        via.push(entry.copy(alloc)?)?;
+    }
+    via.push(Destination::Node(from))?;
+    Ok(via)
+}
 
 /// The header with which a request that came from a node goes on to this destination list.
 #[tactic(auto, unfolding(node_model::specs::Courses::onward))]
@@ -31,8 +48,7 @@ fn onward(
     requires { 0 < ttl_of header.now }
     ensures { IfOk result (λ h. h ≡ onward from header.now dest.now) }
 {
-    let mut via = header.via.copy(alloc)?;
-    via.push(Destination::Node(from))?;
+    let via = with_node(alloc, &header.via, from)?;
     hop_on(alloc, header, via, dest)
 }
 

@@ -13,7 +13,7 @@ ghost use Rattle.node_links.specs.Sendings.{posted, post_of, IsSending, payload_
 
 use crate::links::Links;
 use crate::sending::Sending;
-use forwarding_header::{Header, encode_header};
+use forwarding_header::{Header, put_header};
 use link_framing::{Frame, encode_frame};
 use node_messages::header_len;
 use reload_base::{Bytes, List, NoMemory};
@@ -68,7 +68,7 @@ fn onward_frame(
 {
     let header = filled(header, behind);
     let mut out = payload_front(alloc, sequence, header.length)?;
-    out.extend(encode_header(alloc, &header)?.as_slice())?;
+    put_header(&mut out, &header)?;
     out.extend(behind)?;
     Ok(out)
 }

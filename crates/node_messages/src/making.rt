@@ -13,7 +13,7 @@ ghost use Rattle.node_messages.specs.Assembling.{IsAssembled};
 ghost use Rattle.node_messages.specs.Signed.{words_of, signed};
 
 use crate::signed::{FRONT, signed_front};
-use forwarding_header::{Header, encode_header, fits};
+use forwarding_header::{Header, fits, put_header};
 use message_bodies::Contents;
 use reload_base::{Bytes, List, NoMemory};
 use security_block::{About, Certificate, SIGNING, SecurityBlock, Signer};
@@ -111,8 +111,9 @@ fn assembled(
         return Ok(None);
     }
     let length = len as u32;
-    let mut out = encode_header(alloc, &Header { length, ..header })?;
+    let mut out = Bytes::new(alloc);
     out.reserve(length as usize)?;
+    put_header(&mut out, &Header { length, ..header })?;
     out.extend(contents)?;
     security.put(&mut out)?;
     Ok(Some(out))

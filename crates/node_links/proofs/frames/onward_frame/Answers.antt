@@ -9,14 +9,13 @@ use Rattle.node_links.proofs.frames.onward_frame.Goals as goal
 pub payload_front-requires : goal.payload_front-requires
 payload_front-requires c = omega (arith, ap (λ (h : Header). h.length) c.filled-header.ensures, with_length-whole c.args.header c.args.behind.now, c.requires.within)
 
-pub encode_header-requires : goal.encode_header-requires
-encode_header-requires c = subst IsSpelledHeader (sym c.filled-header.ensures) (spelled_with_length c.args.header c.args.behind.now c.requires.spelled)
+pub put_header-requires : goal.put_header-requires
+put_header-requires c = subst IsSpelledHeader (sym c.filled-header.ensures) (spelled_with_length c.args.header c.args.behind.now c.requires.spelled)
 
 pub returns : goal.returns
 returns c =
-    c.in_ok-extend-2.ensures.ok
-    ∙ ap (λ (t : List ℕ). t ++ c.args.behind.now) (c.in_ok-extend.ensures.ok
-    ∙ ap (λ (t : List ℕ). t ++ c.as_slice.result.now) c.in_ok-out.ensures
-    ∙ ap (λ (t : List ℕ). payload_front c.args.sequence c.filled-header.result.length ++ t) (c.as_slice.ensures ∙ c.in_ok-encode_header.ensures))
+    c.in_ok-extend.ensures.ok
+    ∙ ap (λ (t : List ℕ). t ++ c.args.behind.now) (c.in_ok-put_header.ensures.ok
+    ∙ ap (λ (t : List ℕ). t ++ header c.filled-header.result) c.in_ok-out.ensures)
     ∙ ap (λ (h : Header). (payload_front c.args.sequence h.length ++ header h) ++ c.args.behind.now) c.filled-header.ensures
     ∙ framed_whole c.args.sequence c.args.header c.args.behind.now
