@@ -1,4 +1,5 @@
 pub mod Fakes
+pub mod Heads
 pub mod Lists
 pub mod Outside
 pub mod Whole

@@ -1,5 +1,6 @@
 -- What stands outside as one value each, and what a call does to it.
-use Rattle.std.specs.Prelude.{◌≡◌, ℕ, ◌+◌, ◌-◌, ◌^◌, ◌<◌, ◌≤◌, nat_lt, if◌then◌else◌, List, [], ◌∷◌, ◌++◌, length, take, slice_get, sum_by, Option, Some}
+use Rattle.std.specs.Prelude.{◌≡◌, ℕ, ◌+◌, ◌-◌, ◌^◌, ◌<◌, ◌≤◌, nat_lt, if◌then◌else◌, List, [], ◌∷◌, ◌++◌, length, take, slice_get, slice_index, sum_by, Option, Some}
+use Rattle.std.specs.List.{AllByRecursion}
 use Rattle.std.specs.Io.KnownBytes.{Appends, Consumes, IsAtEnd}
 use Rattle.reload_base.specs.declared.source.Took.{Took}
 use Rattle.reload_base.specs.declared.source.Took.TheVariants as took
@@ -63,6 +64,10 @@ Writes old new wrote.NoMemory piece = Adds old new []
 -- how many bytes the frames have together
 unfoldable pub size_of : List AirFrame → ℕ
 size_of frames = sum_by (λ f. length f.bytes) frames
+
+-- what each frame holds are bytes
+abbrev pub HoldBytes : List AirFrame → Type 0
+HoldBytes frames = AllByRecursion (λ f. (i : ℕ) → slice_index f.bytes i < 2 ^ 8) frames
 
 -- a send that is Ok put one frame with these bytes behind the others; any other sent nothing
 abbrev pub Sends : AirView → AirView → Sent → AirFrame → Type 0

@@ -1,7 +1,7 @@
 //! What carries frames from node to node.
 
 ghost use Rattle.std.specs.Prelude.{◌≡◌, ℕ, ◌+◌, ◌^◌, ◌<◌, ◌≤◌, length};
-ghost use Rattle.reload_base.specs.Outside.{AirView, Sends, Gets, size_of};
+ghost use Rattle.reload_base.specs.Outside.{AirView, Sends, Gets, HoldBytes, size_of};
 
 use crate::list::Bytes;
 use std::alloc::Global;
@@ -57,7 +57,8 @@ pub trait Air {
     /// The number of frames.
     fn frames(&self) -> u64
         ensures value { result ≡ length (view self.now).sent }
-        ensures few { result ≤ size_of (view self.now).sent };
+        ensures few { result ≤ size_of (view self.now).sent }
+        ensures bytes { HoldBytes (view self.now).sent };
 
     /// How many bytes the frames have together.
     fn size(&self) -> u64

@@ -1,7 +1,7 @@
 //! An air in memory.
 
-ghost use Rattle.std.specs.Prelude.{◌≡◌, ◌≢◌, ◌+◌, ◌^◌, ◌<◌, ◌≤◌, ◌↔◌, [], ◌∷◌, ◌++◌, length, IsTrue, IfOk, OnOk, OnErr};
-ghost use Rattle.reload_base.specs.Outside.{Sends, Gets, size_of};
+ghost use Rattle.std.specs.Prelude.{◌≡◌, ◌≢◌, ◌+◌, ◌^◌, ◌<◌, ◌≤◌, ◌↔◌, [], ◌∷◌, ◌++◌, length, slice_index, ℕ, IsTrue, IfOk, OnOk, OnErr};
+ghost use Rattle.reload_base.specs.Outside.{Sends, Gets, HoldBytes, size_of};
 ghost use Rattle.reload_base.specs.Fakes.{counted, next_fails, IsFaultless};
 
 use crate::air::{Air, AirFrame, Got, Sent};
@@ -11,12 +11,22 @@ use crate::no_memory::NoMemory;
 use std::alloc::Global;
 use std::marker::Model;
 
-/// Frames in memory, a fake of the outside. Contracts see the frames that were sent, and beside
-/// them the calls of `send`, which alone are counted and can fail.
+/// Where a frame lies in the bytes of all, and the nodes that it goes from and to.
+#[derive(Debug, Drop)]
+struct Head {
+    from: u32,
+    to: u32,
+    start: u64,
+    len: u64,
+}
+
+/// Frames in memory, a fake of the outside. Their bytes lie one behind the other in memory that
+/// all share. Contracts see the frames that were sent, and beside them the calls of `send`, which
+/// alone are counted and can fail.
 #[derive(Debug, Drop)]
 pub struct MemoryAir {
-    frames: List<AirFrame>,
-    size: u64,
+    heads: List<Head>,
+    bytes: Bytes,
     calls: Calls,
 }
 
@@ -27,22 +37,22 @@ impl Model for MemoryAir {
     ghost use Rattle.reload_base.specs.contracts.air.AirFrame as of_frame;
     ghost use Rattle.reload_base.specs.declared.calls.Calls.{Calls};
     ghost use Rattle.reload_base.specs.contracts.calls.Calls as of_calls;
+    ghost use Rattle.reload_base.specs.Heads.{frames_in, Lies};
+    ghost use Rattle.reload_base.specs.Outside.{size_of};
 
     ghost Value = { List AirFrame × Calls };
 
     ghost coded = { coded× (coded_list of_frame.the_row.coded) of_calls.the_row.coded };
 
-    ghost use Rattle.reload_base.specs.Outside.{size_of};
+    ghost view = { λ a. (frames_in a.heads a.bytes, a.calls) };
 
-    ghost view = { λ a. (a.frames, a.calls) };
-
-    ghost invariant = { λ a. (a.size ≡ size_of a.frames) × (a.size < 2 ^ 63)
-        × All (λ f. 0 < length f.bytes) a.frames };
+    ghost invariant = { λ a. (size_of (frames_in a.heads a.bytes) ≡ length a.bytes)
+        × (length a.bytes < 2 ^ 63) × All (Lies a.bytes) a.heads };
 }
 
 impl MemoryAir {
     /// An air without frames. The sends whose numbers are in `fail`, counted from 1, fail.
-    #[tactic(auto, using(crate::proofs::Frames::size_of_none))]
+    #[tactic(auto, using(crate::proofs::Heads::none_in, crate::proofs::Frames::size_of_none))]
     pub fn new(alloc: Global, fail: &[u64]) -> Result<MemoryAir, NoMemory>
         ensures view { IfOk result (λ a. ⟦<MemoryAir as Air>⟧.view a
             ≡ record { sent = []; faults = 0 }) }
@@ -51,8 +61,8 @@ impl MemoryAir {
             a.1 ≡ record { made = 0; failing = fail.now; faults = 0 }) }
     {
         Ok(MemoryAir {
-            frames: List::new(alloc),
-            size: 0,
+            heads: List::new(alloc),
+            bytes: List::new(alloc),
             calls: Calls::new(alloc, fail)?,
         })
     }
@@ -66,13 +76,18 @@ impl MemoryAir {
         ensures err { OnErr result (self.new.0 ≡ self.old.0) }
         ensures calls { self.new.1 ≡ self.old.1 }
     {
-        let frame = AirFrame {
+        let start = self.bytes.len();
+        self.bytes.extend(bytes)?;
+        let head = Head {
             from,
             to,
-            bytes: Bytes::from_slice(alloc, bytes)?,
+            start: start as u64,
+            len: bytes.len() as u64,
         };
-        self.frames.push(frame)?;
-        self.size += bytes.len() as u64;
+        if let Err(e) = self.heads.push(head) {
+            self.bytes.truncate(start);
+            return Err(e);
+        }
         Ok(())
     }
 }
@@ -102,6 +117,7 @@ impl Air for MemoryAir {
     }
 
     /// Gives a copy of the frame, unless memory is missing. Nothing changes.
+    #[tactic(auto, using(crate::proofs::Heads::counted_in))]
     fn frame(&mut self, alloc: Global, k: u64) -> Got
         requires first { 1 ≤ k }
         requires last { k ≤ length self.old.0 }
@@ -110,28 +126,37 @@ impl Air for MemoryAir {
             (⟦<MemoryAir as Air>⟧.view self.new) k result }
         ensures fault { result ≢ Got.Failed }
     {
-        let frame = &self.frames.as_slice()[(k - 1) as usize];
-        match Bytes::from_slice(alloc, frame.bytes.as_slice()) {
+        let head = &self.heads.as_slice()[(k - 1) as usize];
+        let (_, behind) = self.bytes.as_slice().split_at(head.start as usize);
+        let (bytes, _) = behind.split_at(head.len as usize);
+        match Bytes::from_slice(alloc, bytes) {
             Ok(bytes) => Got::Frame(AirFrame {
-                from: frame.from,
-                to: frame.to,
+                from: head.from,
+                to: head.to,
                 bytes,
             }),
             Err(_) => Got::NoMemory,
         }
     }
 
-    #[tactic(auto, using(crate::proofs::Frames::length_le_size_of))]
+    #[tactic(auto, using(crate::proofs::Heads::counted_in, crate::proofs::Heads::few_in, crate::proofs::Heads::hold_bytes))]
     fn frames(&self) -> u64
         ensures value { result ≡ length self.now.0 }
         ensures few { result ≤ size_of self.now.0 }
+        ensures bytes { HoldBytes self.now.0 }
     {
-        self.frames.len() as u64
+        are_bytes(self.bytes.as_slice());
+        self.heads.len() as u64
     }
 
     fn size(&self) -> u64
         ensures { result ≡ size_of self.now.0 }
     {
-        self.size
+        self.bytes.len() as u64
     }
 }
+
+/// Does nothing, and tells contracts that these are bytes.
+fn are_bytes(bytes: &[u8])
+    ensures { (i : ℕ) → slice_index bytes.now i < 2 ^ 8 }
+{}

@@ -1,18 +1,20 @@
-use Rattle.std.proofs.Common.{◌<◌, length, ap, arith}
-use Rattle.std.proofs.lemmas.List.Elements.{All-push}
-use Rattle.reload_base.specs.declared.air.AirFrame.{AirFrame}
-use Rattle.reload_base.proofs.Frames.{size_of_push}
+use Rattle.std.proofs.Common.{arith}
+use Rattle.std.proofs.lemmas.List.{length-append}
+use Rattle.reload_base.proofs.Heads.{pushed_in, pushed_size, pushed_lie}
 use Rattle.reload_base.proofs.memory_air.MemoryAir.append.Goals as goal
 
-pub invariant_of-self-2 : goal.invariant_of-self-2
-invariant_of-self-2 c =
-    let frames = c.self.inside.frames in
-    let frame : AirFrame = record { from = c.args.from; to = c.args.to; bytes = c.in_ok-from_slice.field-0 } in
-    let filled = c.self.invariant.2 in
+pub invariant_of-self-in_default : goal.invariant_of-self-in_default
+invariant_of-self-in_default c =
+    let heads = c.self.inside.heads in
+    let bytes = c.self.inside.bytes in
     let room = rw (← c.self.view_is) at c.requires.room in
-    let copied = ap length c.in_ok-from_slice.ensures in
-    rw c.in_ok-push.ensures.ok (
-      omega (arith, size_of_push frames frame, copied),
-      omega (arith, room),
-      All-push (λ (f : AirFrame). 0 < length f.bytes) frames frame filled (omega (arith, copied)),
+    rw (c.in_default.ensures.ok, c.in_ok-extend.ensures.ok, c.len-start.ensures) (
+      pushed_size heads c.args.from c.args.to bytes c.args.bytes.now c.self.invariant.2 c.self.invariant.0,
+      omega (arith, length-append bytes c.args.bytes.now, c.self.invariant.0, room),
+      pushed_lie heads c.args.from c.args.to bytes c.args.bytes.now c.self.invariant.2 c.requires.some,
     )
+
+pub returns-clause-ok : goal.returns-clause-ok
+returns-clause-ok c =
+    rw (← c.self.view_is, c.in_default.ensures.ok, c.in_ok-extend.ensures.ok, c.len-start.ensures)
+    (pushed_in c.self.inside.heads c.args.from c.args.to c.self.inside.bytes c.args.bytes.now c.self.invariant.2)
