@@ -1,4 +1,5 @@
 pub mod Finite
 pub mod KeyMaps
 pub mod NumberMaps
+pub mod Places
 pub mod Trees

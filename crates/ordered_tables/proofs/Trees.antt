@@ -19,15 +19,15 @@ both : (a b : Bool) → T a → T b → T (a && b)
 both true b p q = q
 both false b p q = p
 
-first : (a b : Bool) → T (a && b) → T a
+pub first : (a b : Bool) → T (a && b) → T a
 first true b p = tt
 first false b p = p
 
-second : (a b : Bool) → T (a && b) → T b
+pub second : (a b : Bool) → T (a && b) → T b
 second true b p = p
 second false b p = absurd p
 
-less : (o : Ordering) → T (is_lt o) → o ≡ Less
+pub less : (o : Ordering) → T (is_lt o) → o ≡ Less
 less Less p = refl
 less Equal p = absurd p
 less Greater p = absurd p
@@ -37,7 +37,7 @@ equal Less p = absurd p
 equal Equal p = refl
 equal Greater p = absurd p
 
-abbrev below_all : {L X : Type 0} → (L → L → Ordering) → L → List (L × X) → Bool
+abbrev pub below_all : {L X : Type 0} → (L → L → Ordering) → L → List (L × X) → Bool
 below_all R x [] = true
 below_all R x (e ∷ es) = is_lt (R x e.0) && below_all R x es
 
@@ -95,7 +95,7 @@ module _ {L X : Type 0} (R : L → L → Ordering) (o : IsTotalOrder R) where
   below_tied x y (e ∷ es) p h = both _ _ (subst (λ r. T (is_lt r)) (sym (o.congr x y e.0 p)) (first _ _ h)) (below_tied x y es p (second _ _ h))
 
   -- the maps of lists that rise
-  put_seen : (es : List (L × X)) (k : L) (v : X) (fs : List (L × X)) → T (is_sorted R es) → T (is_sorted R fs) → fs ≡ put R k v es → from_sorted {R = R} fs ≡ insert (from_sorted es) k v
+  pub put_seen : (es : List (L × X)) (k : L) (v : X) (fs : List (L × X)) → T (is_sorted R es) → T (is_sorted R fs) → fs ≡ put R k v es → from_sorted {R = R} fs ≡ insert (from_sorted es) k v
   put_seen es k v fs h g e = same_entries_map _ _ (entries-from_sorted R fs g ∙ e ∙ ap (put R k v) (sym (entries-from_sorted R es h)) ∙ sym (entries-insert o (from_sorted es) k v))
 
   -- what is summed up over the entries, where one is put

@@ -13,19 +13,9 @@ ghost use Rattle.overlay_world.specs.Steps.{busy_in};
 
 use crate::actors::Actors;
 use crate::fault::StepFault;
-use node_model::{Input, MAX_LOAD, Outputs, PeerState};
+use node_model::{Input, Outputs, PeerState};
 use security_block::Signer;
 use std::alloc::Global;
-
-/// The load of the node with a number, 0 where there is none.
-fn load_of(actors: &Actors, number: u32) -> u64
-    ensures { result ≡ load_of (map.get actors.now number) }
-{
-    match actors.get(number) {
-        Some(actor) => actor.load(),
-        None => 0,
-    }
-}
 
 /// Whether the node with a number hears what comes to it: a client, and a peer that isn't gone.
 pub(crate) fn is_hearing(actors: &Actors, number: u32) -> bool
@@ -87,8 +77,5 @@ pub(crate) fn act<G: Signer>(
         (map.get actors.old number) actors.old) }
     ensures unheard { IfErr result (IsUnheard number (load_of (map.get actors.old number))) }
 {
-    if MAX_LOAD <= load_of(actors, number) {
-        return Err(StepFault::NodeFull(number));
-    }
-    Ok(actors.handle(alloc, number, now, input, signer)?)
+    actors.handle(alloc, number, now, input, signer)
 }

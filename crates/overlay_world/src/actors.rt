@@ -1,38 +1,40 @@
 //! The nodes of a world, by number.
 
-ghost use Rattle.std.specs.Prelude.{◌≡◌, ◌<◌, ◌^◌, IfOk, OnOk, OnErr};
+ghost use Rattle.std.specs.Prelude.{◌≡◌, ◌<◌, ◌^◌, Some, IfOk, IfErr, OnOk};
 ghost use Rattle.std.specs.List.{list_all};
 ghost use Rattle.std.specs.Option.{option_copied, option_map, option_map_or};
 ghost use Rattle.std.specs.FinMap as map;
 ghost use Rattle.chord_tables.specs.Tables.{ids};
 ghost use Rattle.node_messages.specs.Signed.{words_of};
-ghost use Rattle.node_model.specs.declared.limits.TheConstants.{MAX_LOAD};
 ghost use Rattle.node_model.specs.Nodes.{cause_of};
 ghost use Rattle.run_model.specs.Worlds as model;
 ghost use Rattle.run_model.specs.Stops.{load_of};
 ghost use Rattle.overlay_world.specs.Declarations.{IsDeclared, AreDeclared, with_declared};
+ghost use Rattle.overlay_world.specs.Sendings.{IsUnheard};
 
 use crate::actor::Actor;
+use crate::fault::StepFault;
 use data_models::Config;
-use node_model::{Input, Outputs};
+use node_model::{Input, MAX_LOAD, Outputs};
+use ordered_tables::place_in;
 use reload_base::{List, NoMemory};
 use reload_ids::NodeId;
 use request_words::{DeclaredNode, Role, is_role};
 use security_block::Signer;
 use std::alloc::Global;
-use std::collections::BTreeMap;
 use std::marker::Model;
 
-/// Nodes by number, found in logarithmic time and changed where they lie. Contracts see the map.
+/// Nodes by number, in one list in their order: found in logarithmic time, and changed where they
+/// lie. Contracts see the map.
 #[derive(Drop)]
 pub struct Actors {
-    tree: BTreeMap<u32, Actor>,
+    rows: Vec<(u128, Actor)>,
 }
 
 impl Model for Actors {
     ghost use Rattle.std.specs.FinMap as map;
     ghost use Rattle.std.specs.Ordering.{nat_cmp};
-    ghost use Rattle.ordered_tables.specs.Seen.{seen, IsRising};
+    ghost use Rattle.ordered_tables.specs.Places.{Rises};
     ghost use Rattle.run_model.specs.Worlds as model;
     ghost use Rattle.overlay_world.specs.Nodes.{actors_code};
 
@@ -40,9 +42,9 @@ impl Model for Actors {
 
     ghost coded = { actors_code };
 
-    ghost view = { λ a. seen (λ k. k) nat_cmp a.tree.entries };
+    ghost view = { λ a. map.from_sorted a.rows.items };
 
-    ghost invariant = { λ a. IsRising (λ k. k) nat_cmp a.tree.entries };
+    ghost invariant = { λ a. Rises a.rows.items };
 }
 
 impl Actors {
@@ -84,7 +86,7 @@ impl Actors {
         ensures { result ≡ map.empty }
     {
         Actors {
-            tree: BTreeMap::new(alloc),
+            rows: Vec::new(alloc),
         }
     }
 
@@ -107,24 +109,32 @@ impl Actors {
         Ok(())
     }
 
-    /// Puts a node at a number.
-    fn insert(&mut self, number: u32, actor: Actor) -> Result<(), NoMemory>
+    /// Puts a node at a number, and hands the one before back.
+    fn insert(&mut self, number: u32, actor: Actor) -> Result<Option<Actor>, NoMemory>
         ensures { OnOk result (self.new ≡ map.insert self.old number actor) }
     {
-        self.tree.insert(number, actor)?;
-        Ok(())
+        let key = u128::from(number);
+        match place_in(&self.rows, key) {
+            Ok(place) => Ok(Some(std::mem::replace(&mut self.rows[place].1, actor))),
+            Err(place) => {
+                self.rows.insert(place, (key, actor))?;
+                Ok(None)
+            }
+        }
     }
 
     /// The node with a number.
     pub fn get(&self, number: u32) -> Option<&Actor>
         ensures { option_copied result ≡ map.get self.now number }
     {
-        self.tree.get(&number)
+        match place_in(&self.rows, u128::from(number)) {
+            Ok(place) => Some(&self.rows[place].1),
+            Err(_) => None,
+        }
     }
 
     /// The node with a number handles an input, at a clock in milliseconds: what it puts out, or
-    /// none where there is no such node. It needs a load below `MAX_LOAD`. After `NoMemory`, the
-    /// only refusal, all nodes are as before.
+    /// none where there is no such node.
     pub fn handle<G: Signer>(
         &mut self,
         alloc: Global,
@@ -132,9 +142,8 @@ impl Actors {
         now: u64,
         input: Input<'_>,
         signer: &G,
-    ) -> Result<Option<Outputs>, NoMemory>
+    ) -> Result<Option<Outputs>, StepFault>
         requires clock { now < 2 ^ 62 }
-        requires light { load_of (map.get self.old number) < MAX_LOAD }
         // What it puts out.
         ensures outputs { let words = words_of G.certificate_of G.signature_of G.about_of G.verifies
             signer.now
@@ -148,27 +157,57 @@ impl Actors {
             ≡ option_map_or (λ a. map.insert self.old number
             (model.acts words now (cause_of input.entry) a).node)
             (map.get self.old number) self.old) }
-        ensures err { OnErr result (self.new ≡ self.old) }
+        // Why it doesn't.
+        ensures unheard { IfErr result (IsUnheard number (load_of (map.get self.old number))) }
     {
-        let Some(actor) = self.tree.get_mut(&number) else {
-            return Ok(None);
-        };
-        Ok(Some(actor.handle(alloc, now, input, signer)?))
+        match place_in(&self.rows, u128::from(number)) {
+            Ok(place) => {
+                let actor = &mut self.rows[place].1;
+                Ok(Some(handled(alloc, actor, number, now, input, signer)?))
+            }
+            Err(_) => Ok(None),
+        }
     }
 
     /// Whether no peer comes or goes, and nothing that a peer sent waits for an answer.
     pub fn settled(&self) -> bool
         ensures { result ≡ list_all (λ a. model.is_still a.1) (map.entries self.now) }
     {
-        all_still(&self.tree)
+        all_still(&self.rows)
     }
 }
 
-/// Whether nothing of any node is under way.
-fn all_still(actors: &BTreeMap<u32, Actor>) -> bool
-    ensures { result ≡ list_all (λ a. model.is_still a.1) actors.now.entries }
+/// A node with a number handles an input, at a clock in milliseconds: what it puts out.
+fn handled<G: Signer>(
+    alloc: Global,
+    actor: &mut Actor,
+    number: u32,
+    now: u64,
+    input: Input<'_>,
+    signer: &G,
+) -> Result<Outputs, StepFault>
+    requires clock { now < 2 ^ 62 }
+    ensures outputs { let words = words_of G.certificate_of G.signature_of G.about_of G.verifies
+        signer.now
+        in IfOk result (λ out. out
+        ≡ (model.acts words now (cause_of input.entry) actor.old).outputs) }
+    ensures node { let words = words_of G.certificate_of G.signature_of G.about_of G.verifies
+        signer.now
+        in OnOk result (actor.new
+        ≡ (model.acts words now (cause_of input.entry) actor.old).node) }
+    ensures unheard { IfErr result (IsUnheard number (load_of (Some actor.old))) }
 {
-    actors.iter().all(|(_, actor)| actor.still())
+    if MAX_LOAD <= actor.load() {
+        return Err(StepFault::NodeFull(number));
+    }
+    Ok(actor.handle(alloc, now, input, signer)?)
+}
+
+/// Whether nothing of any node is under way.
+fn all_still(rows: &Vec<(u128, Actor)>) -> bool
+    ensures { result ≡ list_all (λ a. model.is_still a.1) rows.now.items }
+{
+    rows.iter().all(|row| row.1.still())
 }
 
 /// The peers that are declared.

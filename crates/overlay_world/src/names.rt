@@ -4,7 +4,7 @@ ghost use Rattle.std.specs.Prelude.{◌≡◌, IfOk};
 ghost use Rattle.run_model.specs.Worlds as model;
 ghost use Rattle.overlay_world.specs.Indexes.{numbers_in, nodes_in};
 
-use ordered_tables::NumberTable;
+use ordered_tables::SortedTable;
 use reload_base::{List, NoMemory, TryCopy};
 use reload_ids::NodeId;
 use request_words::DeclaredNode;
@@ -17,9 +17,9 @@ use std::marker::Model;
 pub struct Names {
     names: List<DeclaredNode>,
     /// By Node-ID the numbers of nodes.
-    numbers: NumberTable<u32>,
+    numbers: SortedTable<u32>,
     /// By number the Node-IDs of nodes.
-    nodes: NumberTable<NodeId>,
+    nodes: SortedTable<NodeId>,
 }
 
 impl Model for Names {
@@ -74,10 +74,10 @@ impl Names {
 }
 
 /// By Node-ID the numbers of nodes. Of two with one Node-ID the first counts.
-fn numbers_in(alloc: Global, names: &[DeclaredNode]) -> Result<NumberTable<u32>, NoMemory>
+fn numbers_in(alloc: Global, names: &[DeclaredNode]) -> Result<SortedTable<u32>, NoMemory>
     ensures { IfOk result (λ numbers. numbers ≡ numbers_in names.now) }
 {
-    let mut numbers = NumberTable::new(alloc);
+    let mut numbers = SortedTable::new(alloc);
     let mut left = names;
     while let Some((last, before)) = left.split_last() {
         numbers.insert(last.node.0, last.number)?;
@@ -87,10 +87,10 @@ fn numbers_in(alloc: Global, names: &[DeclaredNode]) -> Result<NumberTable<u32>,
 }
 
 /// By number the Node-IDs of nodes. Of two with one number the first counts.
-fn nodes_in(alloc: Global, names: &[DeclaredNode]) -> Result<NumberTable<NodeId>, NoMemory>
+fn nodes_in(alloc: Global, names: &[DeclaredNode]) -> Result<SortedTable<NodeId>, NoMemory>
     ensures { IfOk result (λ nodes. nodes ≡ nodes_in names.now) }
 {
-    let mut nodes = NumberTable::new(alloc);
+    let mut nodes = SortedTable::new(alloc);
     let mut left = names;
     while let Some((last, before)) = left.split_last() {
         nodes.insert(u128::from(last.number), last.node)?;

@@ -1,12 +1,11 @@
 use Rattle.std.proofs.Common.{ap, sym, ◌∙◌}
 use Rattle.std.specs.List.{list_all}
-use Rattle.std.specs.FinMap.{entries}
-use Rattle.ordered_tables.proofs.Trees.{same_shown}
-use Rattle.ordered_tables.proofs.NumberMaps.{numbered_entries}
+use Rattle.std.specs.Ordering.{nat_cmp}
+use Rattle.std.specs.FinMap.{entries, entries-from_sorted}
 use Rattle.run_model.specs.Worlds.{is_still}
 use Rattle.overlay_world.proofs.actors.Actors.settled.Goals as goal
 
 pub returns : goal.returns
 returns c =
     c.all_still.ensures
-    ∙ ap (list_all (λ a. is_still a.1)) (sym (numbered_entries c.self.inside.tree.entries c.self.invariant ∙ same_shown c.self.inside.tree.entries) ∙ ap entries c.self.view_is)
+    ∙ ap (list_all (λ a. is_still a.1)) (sym (entries-from_sorted nat_cmp c.self.inside.rows.items c.self.invariant) ∙ ap entries c.self.view_is)
