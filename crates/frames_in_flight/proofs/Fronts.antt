@@ -1,13 +1,12 @@
 -- Lists whose front has nothing that passes a test.
-use Rattle.std.proofs.Common.{◌≡◌, ◌≢◌, ℕ, zero, suc, ◌+◌, ◌-◌, ◌<◌, ◌≤◌, Bool, true, false, cond, not, List, [], ◌∷◌, ◌++◌, length, take, drop, refl, sym, ap, ◌∙◌, arith}
-use Rattle.std.specs.Prelude.{Some, None, nat_lt, position, slice_get, slice_set, slice_index_or}
+use Rattle.std.proofs.Common.{◌≡◌, ◌≢◌, ℕ, zero, suc, ◌+◌, ◌-◌, ◌<◌, ◌≤◌, Bool, true, false, cond, not, List, [], ◌∷◌, ◌++◌, length, drop, refl, sym, ap, ◌∙◌, arith}
+use Rattle.std.specs.Prelude.{Some, None, nat_lt, position, slice_set}
 use Rattle.std.specs.List.{position_or_len}
 use Rattle.std.proofs.lemmas.Bool.{lt-ltb, le-ltb, ltb-true, ltb-false}
 use Rattle.std.proofs.lemmas.List.{length-drop}
-use Rattle.run_model.specs.declared.flight.Flight.{Flight}
 use Rattle.run_model.specs.declared.flight.Fate.{Fate}
 use Rattle.run_model.specs.declared.flight.Fate.TheVariants.{Waiting, Delivered, Lost}
-use Rattle.run_model.specs.Moves.{is_waiting}
+use Rattle.frames_in_flight.specs.Flying.{waits}
 
 -- ---- the answer of `position`, by the length of the front and that of the list
 
@@ -99,40 +98,21 @@ module _ {X : Type 0} (p : X → Bool) where
       let is : length xs ≡ position_or_len p xs = omega arith in
       (is, nowhere_of (position_or_len p xs) (length xs) (omega arith))
 
--- ---- frames
-
-front_of : {X : Type 0} (xs ys : List X) → take (length xs) (xs ++ ys) ≡ xs
-front_of [] ys = refl
-front_of (x ∷ xs) ys = ap (λ l. x ∷ l) (front_of xs ys)
-
--- a part of the end that is taken back
-pub taken_back : {X : Type 0} (xs ys zs : List X) → zs ≡ xs ++ ys → take (length xs) zs ≡ xs
-taken_back xs ys zs e = ap (λ l. take (length xs) l) e ∙ front_of xs ys
+-- ---- fates
 
 -- a front that is settled stays so where more follows
-pub front_added : (n : ℕ) (xs ys zs : List Flight) → n ≤ position_or_len is_waiting xs → zs ≡ xs ++ ys → n ≤ position_or_len is_waiting zs
+pub front_added : (n : ℕ) (xs ys zs : List Fate) → n ≤ position_or_len waits xs → zs ≡ xs ++ ys → n ≤ position_or_len waits zs
 front_added n xs ys zs le e =
-    let more = front_before is_waiting xs ys in
-    let same : position_or_len is_waiting zs ≡ position_or_len is_waiting (xs ++ ys) = ap (λ l. position_or_len is_waiting l) e in
+    let more = front_before waits xs ys in
+    let same : position_or_len waits zs ≡ position_or_len waits (xs ++ ys) = ap (λ l. position_or_len waits l) e in
     omega (arith, le, more, same)
 
--- the item at a place
-item_at : {X : Type 0} (xs : List X) (i : ℕ) (x y : X) → x ≡ slice_index_or xs i x → slice_get xs i ≡ Some y → x ≡ y
-item_at [] i x y e at = absurd (cc)
-item_at (z ∷ xs) zero x y e at = cc
-item_at (z ∷ xs) (suc i) x y e at = item_at xs i x y e at
+waits_no_more : (fate : Fate) → fate ≢ Waiting → waits fate ≡ false
+waits_no_more Waiting h = absurd (h refl)
+waits_no_more Delivered h = refl
+waits_no_more Lost h = refl
 
-pub fate_given : (xs ys : List Flight) (i : ℕ) (f g : Flight) (fate : Fate) → xs ≡ ys → f ≡ slice_index_or xs i f → slice_get ys i ≡ Some g → slice_set xs i (record f { fate = fate }) ≡ slice_set ys i (record g { fate = fate })
-fate_given xs ys i f g fate e is at =
-    let same : f ≡ g = item_at ys i f g (is ∙ ap (λ l. slice_index_or l i f) e) at in
-    ap (λ l. slice_set l i (record f { fate = fate })) e ∙ ap (λ (h : Flight). slice_set ys i (record h { fate = fate })) same
-
-waits_no_more : (f : Flight) (fate : Fate) → fate ≢ Waiting → is_waiting (record f { fate = fate }) ≡ false
-waits_no_more f Waiting h = absurd (h refl)
-waits_no_more f Delivered h = refl
-waits_no_more f Lost h = refl
-
-pub front_settled : (n : ℕ) (xs : List Flight) (i : ℕ) (f : Flight) (fate : Fate) → n ≤ position_or_len is_waiting xs → fate ≢ Waiting → n ≤ position_or_len is_waiting (slice_set xs i (record f { fate = fate }))
-front_settled n xs i f fate le h =
-    let kept = front_replaced is_waiting xs i (record f { fate = fate }) (waits_no_more f fate h) in
+pub front_settled : (n : ℕ) (xs : List Fate) (i : ℕ) (fate : Fate) → n ≤ position_or_len waits xs → fate ≢ Waiting → n ≤ position_or_len waits (slice_set xs i fate)
+front_settled n xs i fate le h =
+    let kept = front_replaced waits xs i fate (waits_no_more fate h) in
     omega (arith, le, kept)

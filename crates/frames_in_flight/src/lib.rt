@@ -1,6 +1,9 @@
-//! The frames ever sent in a run, and the lowest of them that waits.
+//! The frames of a run: what became of each, the lowest that waits, and how they are read from
+//! their air.
 #![tactic(auto)]
 
-mod flights;
+mod fates;
+mod reading;
 
-pub use flights::Flights;
+pub use fates::Fates;
+pub use reading::{FrameError, frame_at};

@@ -5,8 +5,7 @@ use Rattle.std.specs.Option.{option_map, option_map_or, option_and_then}
 use Rattle.std.specs.Ordering.{nat_cmp}
 use Rattle.std.specs.FinMap.{FinMap, get, insert}
 use Rattle.std.proofs.lemmas.List.{append-nil, map-append}
-use Rattle.std.proofs.lemmas.Bool.{eqb-false, ltb-false}
-use Rattle.std.proofs.lemmas.Option.{same_Some, slice_get_cases}
+use Rattle.std.proofs.lemmas.Option.{same_Some}
 use Rattle.reload_ids.specs.declared.NodeId.{NodeId}
 use Rattle.reload_base.specs.declared.air.AirFrame.{AirFrame}
 use Rattle.reload_base.specs.Outside.{AirView}
@@ -245,19 +244,6 @@ out_air n w actors out d old new is has sent = sent ∙ air_put n w actors out d
 
 -- ---- a frame that is lost
 
-both_false : (a b : Bool) → not (a || b) ≡ true → (a ≡ false) × (b ≡ false)
-both_false true b e = absurd (cc)
-both_false false true e = absurd (cc)
-both_false false false e = (refl, refl)
-
--- a frame that was sent has a place
-pub frame_there : (k : ℕ) (w : World) → is_frame k w ≡ true → k - 1 < length w.flights
-frame_there k w e =
-    let h = both_false (k == 0) (nat_lt (length w.flights) k) e in
-    let some : k ≢ 0 = eqb-false k 0 h.0 in
-    let within : k ≤ length w.flights = ltb-false (length w.flights) k h.1 in
-    omega (arith, some, within)
-
 pub lost_not : (line k : ℕ) (w : World) → is_frame k w ≡ false → lost line k w ≡ refused w (NoSuchFrame line)
 unfolding lost
 lost_not line k w there = ap (λ b. cond b (quiet (lost_at (k - 1) w)) (refused w (NoSuchFrame line))) there
@@ -270,13 +256,8 @@ pub lost_quiet : (line k : ℕ) (w : World) → is_frame k w ≡ true → (lost 
 lost_quiet line k w there = ap (λ (d : Done). d.happened) (lost_there line k w there)
 
 -- the flights then
-pub lost_world : (line k : ℕ) (w : World) (flights : List Flight) → is_frame k w ≡ true
-    → ((f : Flight) → slice_get w.flights (k - 1) ≡ Some f → flights ≡ cond (is_waiting f) (slice_set w.flights (k - 1) (record f { fate = Lost })) w.flights)
+pub lost_world : (line k : ℕ) (w : World) (flights : List Flight) (f : Flight) → is_frame k w ≡ true → slice_get w.flights (k - 1) ≡ Some f
+    → flights ≡ cond (is_waiting f) (slice_set w.flights (k - 1) (record f { fate = Lost })) w.flights
     → record w { flights = flights } ≡ (lost line k w).world
-lost_world line k w flights there lose =
-    let found = slice_get_cases w.flights (k - 1) in
-    let le = frame_there k w there in
-    elim (found.1) [
-      | inl x ↦ ap (λ (l : List Flight). let v : World = record w { flights = l } in v) (lose x.0 x.2) ∙ sym (lost_is (k - 1) w x.0 x.2) ∙ sym (ap (λ (d : Done). d.world) (lost_there line k w there))
-      | inr x ↦ absurd (omega (arith, le, x.0))
-    ]
+lost_world line k w flights f sent there lose =
+    ap (λ (l : List Flight). let v : World = record w { flights = l } in v) lose ∙ sym (lost_is (k - 1) w f there) ∙ sym (ap (λ (d : Done). d.world) (lost_there line k w sent))

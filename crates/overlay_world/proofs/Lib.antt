@@ -5,7 +5,9 @@ pub mod Airs
 pub mod Bytes
 pub mod Sent
 pub mod Frames
+pub mod Standings
 pub mod Flown
+pub mod Heard
 pub mod Drained
 pub mod Told
 pub mod Stopping

@@ -7,12 +7,14 @@ use Rattle.reload_base.specs.Outside.{AirView, size_of}
 use Rattle.request_words.specs.declared.node.DeclaredNode.{DeclaredNode}
 use Rattle.node_model.specs.Links.{Sent}
 use Rattle.run_model.specs.declared.flight.Flight.{Flight}
+use Rattle.run_model.specs.declared.flight.Fate.{Fate}
+use Rattle.run_model.specs.declared.flight.Fate.TheVariants.{Waiting}
 use Rattle.run_model.specs.declared.limits.TheConstants.{MAX_AIR}
 use Rattle.run_model.specs.Worlds.{flight_of}
 use Rattle.run_model.specs.Stops.{air_frame}
 use Rattle.overlay_world.specs.declared.fault.StepFault.{StepFault}
 use Rattle.overlay_world.specs.declared.fault.StepFault.TheVariants.{NoMemory}
-use Rattle.overlay_world.specs.Sendings.{sent_by, with_frame, with_frames, IsUnsent, Halts, IsNone}
+use Rattle.overlay_world.specs.Sendings.{sent_by, waiting_for, with_frame, with_frames, IsUnsent, Halts, IsNone}
 use Rattle.overlay_world.proofs.Airs.{split_at_turn, halts_since, halts_at_front, unsent_halts}
 
 -- what holds of each item holds of one of them
@@ -37,9 +39,10 @@ air_more names from ys x old mid new is more =
     ∙ ap (λ (l : List AirFrame). let a : AirView = record old { sent = l } in a)
     (append_assoc old.sent (sent_by names from ys) (frame ∷ []) ∙ ap (λ (l : List AirFrame). old.sent ++ l) (sym (sent_both names from ys (x ∷ []))))
 
-pub flights_more : (names : List DeclaredNode) (from : ℕ) (ys : List Sent) (x : Sent) (sent now : List Flight) → sent ≡ map (flight_of names from) ys → now ≡ sent ++ flight_of names from x ∷ [] → now ≡ map (flight_of names from) (ys ++ x ∷ [])
-flights_more names from ys x sent now is more =
-    more ∙ ap (λ (l : List Flight). l ++ flight_of names from x ∷ []) is ∙ sym (map-append (flight_of names from) ys (x ∷ []))
+pub fates_more : (ys : List Sent) (x : Sent) (old mid new : List Fate) → mid ≡ old ++ waiting_for ys → new ≡ mid ++ Waiting ∷ [] → new ≡ old ++ waiting_for (ys ++ x ∷ [])
+fates_more ys x old mid new is more =
+    more ∙ ap (λ (l : List Fate). l ++ Waiting ∷ []) is ∙ append_assoc old (waiting_for ys) (Waiting ∷ [])
+    ∙ ap (λ (l : List Fate). old ++ l) (sym (map-append (λ (f : Sent). Waiting) ys (x ∷ [])))
 
 -- all frames, at one of them
 whole_at : (names : List DeclaredNode) (from : ℕ) (all ys : List Sent) (x : Sent) (old mid : AirView) → ys ≡ take (length ys) all → (length ys < length all) × (x ≡ get_or all (length ys) x) → mid ≡ with_frames old (sent_by names from ys)

@@ -1,7 +1,9 @@
 pub mod Nodes
 pub mod Declarations
 pub mod Indexes
+pub mod Standings
 pub mod Codes
+pub mod Unread
 pub mod Sendings
 pub mod Steps
 pub mod Stopped

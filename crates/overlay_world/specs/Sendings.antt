@@ -7,6 +7,8 @@ use Rattle.request_words.specs.declared.node.DeclaredNode.{DeclaredNode}
 use Rattle.node_model.specs.declared.limits.TheConstants.{MAX_LOAD}
 use Rattle.node_model.specs.Links.{Sent}
 use Rattle.run_model.specs.declared.limits.TheConstants.{MAX_AIR}
+use Rattle.run_model.specs.declared.flight.Fate.{Fate}
+use Rattle.run_model.specs.declared.flight.Fate.TheVariants.{Waiting}
 use Rattle.run_model.specs.Worlds.{World, flight_of}
 use Rattle.run_model.specs.Stops.{air_frame, load_of, hearer_at}
 use Rattle.overlay_world.specs.declared.fault.StepFault.{StepFault}
@@ -15,6 +17,10 @@ use Rattle.overlay_world.specs.declared.fault.StepFault.TheVariants.{LinkFault, 
 -- the frames that the node with a number sends, as what carries them has them
 abbrev pub sent_by : List DeclaredNode → ℕ → List Sent → List AirFrame
 sent_by names from frames = map air_frame (map (flight_of names from) frames)
+
+-- what becomes of them at first: each waits
+abbrev pub waiting_for : List Sent → List Fate
+waiting_for frames = map (λ f. Waiting) frames
 
 -- whether a frame has a byte
 abbrev pub HasBytes : Sent → Type 0

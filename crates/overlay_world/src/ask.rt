@@ -1,7 +1,7 @@
 //! Clients that are told to ask something.
 
 ghost use Rattle.std.specs.Prelude.{◌≡◌, ◌≤◌, IfOk, IfErr, OnOk};
-ghost use Rattle.reload_base.specs.Outside.{size_of};
+ghost use Rattle.reload_base.specs.Outside.{AirView, size_of};
 ghost use Rattle.node_messages.specs.Signed.{words_of};
 ghost use Rattle.node_model.specs.Nodes.{Commanded};
 ghost use Rattle.run_model.specs.declared.limits.TheConstants.{MAX_AIR};
@@ -9,6 +9,7 @@ ghost use Rattle.run_model.specs.declared.moves.Move.TheVariants as events;
 ghost use Rattle.run_model.specs.Worlds as worlds;
 ghost use Rattle.run_model.specs.Moves as moves;
 ghost use Rattle.run_model.specs.Stops.{frames_in, IsNodeFull};
+ghost use Rattle.overlay_world.specs.Standings.{world_in, IsHeld};
 ghost use Rattle.overlay_world.specs.Sendings.{Halts, IsHeavy};
 ghost use Rattle.overlay_world.specs.Steps.{asked_by};
 
@@ -50,23 +51,27 @@ impl World {
         air: &mut A,
         signer: &G,
     ) -> Result<List<Happening>, StepFault>
-        requires air { (A.view air.old).sent ≡ frames_in self.old }
+        requires air { IsHeld self.old (A.view air.old) }
         requires room { size_of (A.view air.old).sent ≤ MAX_AIR }
         ensures world { let words = words_of G.certificate_of G.signature_of G.about_of G.verifies
-            signer.now in OnOk result (self.new
-            ≡ (worlds.handled words number (Commanded command) self.old).world) }
+            signer.now in let w = world_in self.old (A.view air.old)
+            in OnOk result (world_in self.new (A.view air.new)
+            ≡ (worlds.handled words number (Commanded command) w).world) }
         ensures happened { let words = words_of G.certificate_of G.signature_of G.about_of
-            G.verifies signer.now in IfOk result (λ all. all
-            ≡ (worlds.handled words number (Commanded command) self.old).happened) }
+            G.verifies signer.now in let w = world_in self.old (A.view air.old)
+            in IfOk result (λ all. all
+            ≡ (worlds.handled words number (Commanded command) w).happened) }
         ensures air { let words = words_of G.certificate_of G.signature_of G.about_of G.verifies
-            signer.now in OnOk result (A.view air.new ≡ record (A.view air.old) {
-              sent = frames_in (worlds.handled words number (Commanded command) self.old).world;
+            signer.now in let w = world_in self.old (A.view air.old)
+            in OnOk result (A.view air.new ≡ record (A.view air.old) {
+              sent = frames_in (worlds.handled words number (Commanded command) w).world;
             }) }
         ensures room { OnOk result (size_of (A.view air.new).sent ≤ MAX_AIR) }
         ensures stopped { let words = words_of G.certificate_of G.signature_of G.about_of G.verifies
-            signer.now in IfErr result (
-            Halts (frames_in (worlds.handled words number (Commanded command) self.old).world)
-            (IsHeavy number self.old) (A.view air.old) (A.view air.new)) }
+            signer.now in let w = world_in self.old (A.view air.old)
+            in IfErr result (Halts
+            (frames_in (worlds.handled words number (Commanded command) w).world)
+            (IsHeavy number w) (A.view air.old) (A.view air.new)) }
     {
         let mut happened = List::new(alloc);
         let input = Input::Command(command);
@@ -78,7 +83,7 @@ impl World {
             alloc,
             air,
             &self.names,
-            &mut self.flights,
+            &mut self.fates,
             number,
             outputs,
             &mut happened,
@@ -89,7 +94,8 @@ impl World {
     /// The Node-ID of the peer that a client asks, or why the event at a line is refused.
     #[tactic(auto, unfolding(crate::specs::Steps::asked_by))]
     fn asked_by(&self, line: u64, client: u32, peer: u32) -> Result<NodeId, Happening>
-        ensures { result ≡ asked_by line client peer self.now }
+        ensures { (air : AirView)
+            → result ≡ asked_by line client peer (world_in self.now air) }
     {
         if !is_asked(&self.actors, peer) {
             return Err(Happening::UnknownNode { line });
@@ -115,24 +121,27 @@ impl World {
         air: &mut A,
         signer: &G,
     ) -> Result<List<Happening>, StepFault>
-        requires air { (A.view air.old).sent ≡ frames_in self.old }
+        requires air { IsHeld self.old (A.view air.old) }
         requires room { size_of (A.view air.old).sent ≤ MAX_AIR }
         ensures world { let words = words_of G.certificate_of G.signature_of G.about_of G.verifies
-            signer.now in OnOk result (self.new
-            ≡ (moves.told words line client peer (moves.aimed command) self.old).world) }
+            signer.now in let w = world_in self.old (A.view air.old)
+            in OnOk result (world_in self.new (A.view air.new)
+            ≡ (moves.told words line client peer (moves.aimed command) w).world) }
         ensures happened { let words = words_of G.certificate_of G.signature_of G.about_of
-            G.verifies signer.now in IfOk result (λ all. all
-            ≡ (moves.told words line client peer (moves.aimed command) self.old).happened) }
+            G.verifies signer.now in let w = world_in self.old (A.view air.old)
+            in IfOk result (λ all. all
+            ≡ (moves.told words line client peer (moves.aimed command) w).happened) }
         ensures air { let words = words_of G.certificate_of G.signature_of G.about_of G.verifies
-            signer.now in OnOk result (A.view air.new ≡ record (A.view air.old) {
-              sent = frames_in
-                  (moves.told words line client peer (moves.aimed command) self.old).world;
+            signer.now in let w = world_in self.old (A.view air.old)
+            in OnOk result (A.view air.new ≡ record (A.view air.old) {
+              sent = frames_in (moves.told words line client peer (moves.aimed command) w).world;
             }) }
         ensures room { OnOk result (size_of (A.view air.new).sent ≤ MAX_AIR) }
         ensures stopped { let words = words_of G.certificate_of G.signature_of G.about_of G.verifies
-            signer.now in IfErr result (Halts
-            (frames_in (moves.told words line client peer (moves.aimed command) self.old).world)
-            (IsNodeFull words (events.Ask client peer command) self.old)
+            signer.now in let w = world_in self.old (A.view air.old)
+            in IfErr result (Halts
+            (frames_in (moves.told words line client peer (moves.aimed command) w).world)
+            (IsNodeFull words (events.Ask client peer command) w)
             (A.view air.old) (A.view air.new)) }
     {
         match self.asked_by(line, client, peer) {

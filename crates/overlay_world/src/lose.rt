@@ -1,7 +1,9 @@
 //! Frames that are lost.
 
 ghost use Rattle.std.specs.Prelude.{◌≡◌, IfOk, IfErr, OnOk, OnErr};
+ghost use Rattle.reload_base.specs.Outside.{AirView};
 ghost use Rattle.run_model.specs.Moves as moves;
+ghost use Rattle.overlay_world.specs.Standings.{world_in};
 
 use crate::fault::StepFault;
 use crate::refusing::refused;
@@ -18,14 +20,16 @@ impl World {
         line: u64,
         k: u64,
     ) -> Result<List<Happening>, StepFault>
-        ensures world { OnOk result (self.new ≡ (moves.lost line k self.old).world) }
-        ensures happened { IfOk result (λ all. all ≡ (moves.lost line k self.old).happened) }
+        ensures world { (air : AirView) → OnOk result (world_in self.new air
+            ≡ (moves.lost line k (world_in self.old air)).world) }
+        ensures happened { (air : AirView) → IfOk result (λ all. all
+            ≡ (moves.lost line k (world_in self.old air)).happened) }
         ensures err { IfErr result (λ e. e ≡ StepFault.NoMemory) }
     {
         if !self.was_sent(k) {
             return refused(alloc, Happening::NoSuchFrame { line });
         }
-        self.flights.lost((k - 1) as usize);
+        self.fates.lost((k - 1) as usize);
         Ok(List::new(alloc))
     }
 }

@@ -6,15 +6,15 @@ ghost use Rattle.run_model.specs.declared.happening.Happening.TheVariants.{Tells
 ghost use Rattle.run_model.specs.declared.limits.TheConstants.{MAX_AIR};
 ghost use Rattle.run_model.specs.Worlds.{flight_of};
 ghost use Rattle.run_model.specs.Stops.{air_frame};
-ghost use Rattle.overlay_world.specs.Sendings.{sent_by, HasBytes, with_frame, with_frames, IsUnsent, Halts, IsNone};
+ghost use Rattle.overlay_world.specs.Sendings.{sent_by, waiting_for, HasBytes, with_frame, with_frames, IsUnsent, Halts, IsNone};
 
 use crate::fault::StepFault;
 use crate::names::Names;
-use frames_in_flight::Flights;
+use frames_in_flight::Fates;
 use node_model::{Notice, Outputs};
 use reload_base::{Air, Bytes, List, NoMemory, Sent};
 use reload_ids::NodeId;
-use run_model::{Fate, Flight, Happening, MAX_AIR};
+use run_model::{Happening, MAX_AIR};
 use std::alloc::Global;
 
 /// Sends bytes as one frame, where they fit the air.
@@ -45,17 +45,16 @@ fn send_bytes<A: Air>(
     }
 }
 
-/// Sends a frame of the node with a number, as it flies then.
+/// Sends a frame of the node with a number.
 fn send<A: Air>(
     alloc: Global,
     air: &mut A,
     names: &Names,
     from: u32,
     frame: (NodeId, Bytes),
-) -> Result<Flight, StepFault>
+) -> Result<(), StepFault>
     requires some { HasBytes frame }
     requires room { size_of (A.view air.old).sent ≤ MAX_AIR }
-    ensures flight { IfOk result (λ f. f ≡ flight_of names.now from frame) }
     ensures sent { OnOk result (A.view air.new
         ≡ with_frame (A.view air.old) (air_frame (flight_of names.now from frame))) }
     ensures room { OnOk result (size_of (A.view air.new).sent ≤ MAX_AIR) }
@@ -64,26 +63,21 @@ fn send<A: Air>(
 {
     let (to, bytes) = frame;
     let hearer = names.number_of(to);
-    send_bytes(alloc, air, from, hearer, bytes.as_slice())?;
-    Ok(Flight {
-        sender: from,
-        hearer,
-        bytes,
-        fate: Fate::Waiting,
-    })
+    send_bytes(alloc, air, from, hearer, bytes.as_slice())
 }
 
-/// Sends the frames of the node with a number in their order, as they fly then.
+/// Sends the frames of the node with a number in their order. Each of them waits then.
 fn send_all<A: Air>(
     alloc: Global,
     air: &mut A,
     names: &Names,
+    fates: &mut Fates,
     from: u32,
     frames: List<(NodeId, Bytes)>,
-) -> Result<List<Flight>, StepFault>
+) -> Result<(), StepFault>
     requires some { All HasBytes frames }
     requires room { size_of (A.view air.old).sent ≤ MAX_AIR }
-    ensures flights { IfOk result (λ all. all ≡ map (flight_of names.now from) frames) }
+    ensures fates { OnOk result (fates.new ≡ fates.old ++ waiting_for frames) }
     ensures sent { OnOk result (A.view air.new
         ≡ with_frames (A.view air.old) (sent_by names.now from frames)) }
     ensures room { OnOk result (size_of (A.view air.new).sent ≤ MAX_AIR) }
@@ -91,12 +85,11 @@ fn send_all<A: Air>(
         Halts ((A.view air.old).sent ++ sent_by names.now from frames) IsNone
         (A.view air.old) (A.view air.new)) }
 {
-    let mut sent = List::new(alloc);
     for frame in frames.into_vec() {
-        let flight = send(alloc, air, names, from, frame)?;
-        sent.push(flight)?;
+        send(alloc, air, names, from, frame)?;
+        fates.add()?;
     }
-    Ok(sent)
+    Ok(())
 }
 
 /// What the node with a number tells happens.
@@ -109,20 +102,19 @@ fn tell(number: u32, notices: List<Notice>, happened: &mut List<Happening>) -> R
     Ok(())
 }
 
-/// What the node with a number puts out: its frames are sent and fly, and what it tells happens.
+/// What the node with a number puts out: its frames are sent and wait, and what it tells happens.
 pub(crate) fn put_out<A: Air>(
     alloc: Global,
     air: &mut A,
     names: &Names,
-    flights: &mut Flights,
+    fates: &mut Fates,
     number: u32,
     outputs: Outputs,
     happened: &mut List<Happening>,
 ) -> Result<(), StepFault>
     requires some { All HasBytes outputs.frames }
     requires room { size_of (A.view air.old).sent ≤ MAX_AIR }
-    ensures flights { OnOk result (flights.new
-        ≡ flights.old ++ map (flight_of names.now number) outputs.frames) }
+    ensures fates { OnOk result (fates.new ≡ fates.old ++ waiting_for outputs.frames) }
     ensures happened { OnOk result (happened.new
         ≡ happened.old ++ map (Tells number) outputs.notices) }
     ensures sent { OnOk result (A.view air.new
@@ -133,8 +125,7 @@ pub(crate) fn put_out<A: Air>(
         (A.view air.old) (A.view air.new)) }
 {
     let Outputs { frames, notices } = outputs;
-    let sent = send_all(alloc, air, names, number, frames)?;
-    flights.append(sent)?;
+    send_all(alloc, air, names, fates, number, frames)?;
     tell(number, notices, happened)?;
     Ok(())
 }

@@ -6,6 +6,7 @@ ghost use Rattle.node_messages.specs.Signed.{words_of};
 ghost use Rattle.run_model.specs.declared.limits.TheConstants.{MAX_AIR};
 ghost use Rattle.run_model.specs.Moves.{moved};
 ghost use Rattle.run_model.specs.Stops.{frames_in};
+ghost use Rattle.overlay_world.specs.Standings.{world_in, IsHeld};
 ghost use Rattle.overlay_world.specs.Steps.{IsInTime};
 ghost use Rattle.overlay_world.specs.Stopped.{Stops};
 
@@ -35,25 +36,29 @@ impl World {
         air: &mut A,
         signer: &G,
     ) -> Result<List<Happening>, StepFault>
-        requires clock { IsInTime what self.old }
-        requires air { (A.view air.old).sent ≡ frames_in self.old }
+        requires clock { IsInTime what (world_in self.old (A.view air.old)) }
+        requires air { IsHeld self.old (A.view air.old) }
         requires room { size_of (A.view air.old).sent ≤ MAX_AIR }
         // What the world is afterwards.
         ensures world { let words = words_of G.certificate_of G.signature_of G.about_of G.verifies
-            signer.now in OnOk result (self.new ≡ (moved words line what self.old).world) }
+            signer.now in let w = world_in self.old (A.view air.old)
+            in OnOk result (world_in self.new (A.view air.new)
+            ≡ (moved words line what w).world) }
         // What happened.
         ensures happened { let words = words_of G.certificate_of G.signature_of G.about_of
-            G.verifies signer.now in IfOk result (λ all. all
-            ≡ (moved words line what self.old).happened) }
+            G.verifies signer.now in let w = world_in self.old (A.view air.old)
+            in IfOk result (λ all. all ≡ (moved words line what w).happened) }
         // All frames of the world are in the air, and nothing failed.
         ensures air { let words = words_of G.certificate_of G.signature_of G.about_of G.verifies
-            signer.now in OnOk result (A.view air.new ≡ record (A.view air.old) {
-              sent = frames_in (moved words line what self.old).world;
+            signer.now in let w = world_in self.old (A.view air.old)
+            in OnOk result (A.view air.new ≡ record (A.view air.old) {
+              sent = frames_in (moved words line what w).world;
             }) }
         ensures room { OnOk result (size_of (A.view air.new).sent ≤ MAX_AIR) }
         // What stopped it, and where.
         ensures stopped { let words = words_of G.certificate_of G.signature_of G.about_of G.verifies
-            signer.now in IfErr result (Stops words line what self.old
+            signer.now in let w = world_in self.old (A.view air.old)
+            in IfErr result (Stops words line what w
             (A.view air.old) (A.view air.new)) }
     {
         match what {

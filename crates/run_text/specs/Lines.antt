@@ -4,6 +4,7 @@ use Rattle.std.specs.List.{flat_map}
 use Rattle.std.specs.Option.{option_map_or}
 use Rattle.std.specs.Fmt.{decimal}
 use Rattle.hex.specs.Hex.{encode_lower}
+use Rattle.reload_base.specs.declared.air.AirFrame.{AirFrame}
 use Rattle.text_words.specs.Labelled.{labelled}
 use Rattle.text_words.specs.Lines.{ended, spaced, spaced_by}
 use Rattle.text_words.specs.Transaction.{transaction_text}
@@ -14,7 +15,6 @@ use Rattle.node_model.specs.declared.notice.Told.{Told}
 use Rattle.node_model.specs.declared.notice.Told.TheVariants.{Stored, Fetched, Failed}
 use Rattle.node_model.specs.declared.notice.Notice.{Notice}
 use Rattle.node_model.specs.declared.notice.Notice.TheVariants.{Decision, Answered}
-use Rattle.run_model.specs.declared.flight.Flight.{Flight}
 use Rattle.run_model.specs.declared.happening.Happening.{Happening}
 use Rattle.run_model.specs.declared.happening.Happening.TheVariants.{Tells, NoSuchFrame, UnknownNode, Busy}
 
@@ -67,27 +67,27 @@ happened_text names all = flat_map (ended_by (happening_line names)) all
 -- ---- frames
 
 -- frame K FROM TO
-unfoldable pub flown_text : ℕ → Flight → List ℕ
+unfoldable pub flown_text : ℕ → AirFrame → List ℕ
 flown_text k f =
-    codes "frame" ++ spaced (decimal k) ++ spaced (decimal f.sender) ++ spaced (decimal f.hearer)
+    codes "frame" ++ spaced (decimal k) ++ spaced (decimal f.from) ++ spaced (decimal f.to)
 
 -- frame K FROM TO HEX
-unfoldable pub frame_line : ℕ → Flight → List ℕ
+unfoldable pub frame_line : ℕ → AirFrame → List ℕ
 frame_line k f = flown_text k f ++ spaced (encode_lower f.bytes)
 
 -- the lines of frames, of which the first has number k
-unfoldable pub frame_lines : ℕ → List Flight → List ℕ
+unfoldable pub frame_lines : ℕ → List AirFrame → List ℕ
 frame_lines k [] = []
 frame_lines k (f ∷ fs) = ended (frame_line k f) ++ frame_lines (k + 1) fs
 
 -- the lines of the frames behind the first `from` of all, which are counted from 1
-unfoldable pub frames_text : ℕ → List Flight → List ℕ
-frames_text from flights = frame_lines (from + 1) (drop from flights)
+unfoldable pub frames_text : ℕ → List AirFrame → List ℕ
+frames_text from frames = frame_lines (from + 1) (drop from frames)
 
 -- the line of the frame at a place, counted from 0, and nothing where there is none
-unfoldable pub frame_at : ℕ → List Flight → List ℕ
-frame_at at flights =
-    option_map_or (λ f. ended (frame_line (at + 1) f)) (slice_get flights at) []
+unfoldable pub frame_at : ℕ → List AirFrame → List ℕ
+frame_at at frames =
+    option_map_or (λ f. ended (frame_line (at + 1) f)) (slice_get frames at) []
 
 -- ---- the end
 

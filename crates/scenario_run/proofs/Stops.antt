@@ -21,7 +21,7 @@ use Rattle.scenario_run.specs.declared.fault.RunFault.TheVariants as faults
 use Rattle.scenario_run.specs.Runs.{events_of, world_of, AreFirst}
 use Rattle.scenario_run.specs.Texts.{text_of, transcript}
 use Rattle.scenario_run.specs.Outcomes.{Outlets, Sends, SendsSome, StopsBehind, Breaks}
-use Rattle.scenario_run.specs.Broken.{EventStops, of_step, of_write}
+use Rattle.scenario_run.specs.Broken.{EventStops, IsUntold, of_step, of_write}
 use Rattle.scenario_run.proofs.Laws.{one_map}
 
 -- ---- airs
@@ -117,7 +117,15 @@ step_breaks signer traced s first e w before mid after fault b (inr none) same =
     let adds = subst (λ (x : SinkView). Adds before.sink x (text_of signer traced s first)) (sym same) b.adds in
     rw none.0 (memory_breaks signer traced s first before after (text_of signer traced s first) b.rest b.scenario b.are b.bytes sends b.front adds)
 
--- memory was missing for the lines of an event whose frames were sent
-pub lines_stop : (signer : SignerWords) (w : World) (e : Event) (old new : AirView) → Sends old new (moved signer e.0 e.1 w).world → EventStops signer w e old new step_fault.NoMemory
-lines_stop signer w e old new sends =
-    inl (all_are_front old new (moved signer e.0 e.1 w).world sends, faults_stay old new (moved signer e.0 e.1 w).world sends)
+-- the lines of an event, whose frames were sent, weren't made
+pub lines_stop : (signer : SignerWords) (w : World) (e : Event) (old mid new : AirView) (fault : StepFault) → Sends old mid (moved signer e.0 e.1 w).world → IsUntold mid new fault → EventStops signer w e old new fault
+lines_stop signer w e old mid new step_fault.LinkFault sends untold =
+    let front = all_are_front old mid (moved signer e.0 e.1 w).world sends in
+    let sent : new.sent ≡ mid.sent = ap (λ (a : AirView). a.sent) untold in
+    inl ((front.0, sent ∙ front.1), ap (λ (a : AirView). a.faults) untold ∙ ap raised (faults_stay old mid (moved signer e.0 e.1 w).world sends))
+lines_stop signer w e old mid new (step_fault.AirFull b) sends untold = absurd untold
+lines_stop signer w e old mid new (step_fault.NodeFull n) sends untold = absurd untold
+lines_stop signer w e old mid new step_fault.NoMemory sends untold =
+    let front = all_are_front old mid (moved signer e.0 e.1 w).world sends in
+    let sent : new.sent ≡ mid.sent = ap (λ (a : AirView). a.sent) untold in
+    inl ((front.0, sent ∙ front.1), ap (λ (a : AirView). a.faults) untold ∙ faults_stay old mid (moved signer e.0 e.1 w).world sends)

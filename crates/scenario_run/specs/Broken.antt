@@ -1,6 +1,6 @@
 -- What stops an event of a run, and what that is for the run.
 use Rattle.std.specs.Prelude.{◌≡◌, ◌⊎◌}
-use Rattle.reload_base.specs.Outside.{AirView}
+use Rattle.reload_base.specs.Outside.{AirView, raised}
 use Rattle.reload_base.specs.declared.writing.WriteError.{WriteError}
 use Rattle.reload_base.specs.declared.writing.WriteError.TheVariants as write_error
 use Rattle.node_messages.specs.Signed.{SignerWords}
@@ -16,6 +16,13 @@ use Rattle.scenario_run.specs.declared.fault.RunFault.TheVariants.{LinkFault, Ai
 abbrev pub EventStops : SignerWords → World → Event → AirView → AirView → StepFault → Type 0
 EventStops signer w e old new fault =
     Stops signer e.0 e.1 w old new fault ⊎ ((fault ≡ step_fault.NoMemory) × (new ≡ old))
+
+-- the lines of an event weren't made, and why: a frame wasn't read, or memory was missing
+abbrev pub IsUntold : AirView → AirView → StepFault → Type 0
+IsUntold old new step_fault.LinkFault = new ≡ record old { faults = raised old.faults }
+IsUntold old new (step_fault.AirFull b) = ⊥
+IsUntold old new (step_fault.NodeFull n) = ⊥
+IsUntold old new step_fault.NoMemory = new ≡ old
 
 -- a step that stops, as what stops its run
 abbrev pub of_step : StepFault → RunFault

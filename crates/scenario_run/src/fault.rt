@@ -6,7 +6,7 @@ use reload_base::{NoMemory, WriteError};
 /// What stops a run (this profile).
 #[derive(Clone, Copy, Debug, PartialEq, Eq)]
 pub enum RunFault {
-    /// The air failed to send a frame. The lines of the events before stand.
+    /// The air failed to send a frame, or to give one. The lines of the events before stand.
     LinkFault,
     /// The next frame would bring the air over `MAX_AIR` bytes: so many bytes were sent before. The
     /// lines of the events before stand.

@@ -36,10 +36,9 @@ pub fn run_scenario<K: Sink, A: Air, G: Signer>(
 {
     write_echo(alloc, scenario, sink)?;
     let mut world = World::new(alloc, &scenario.config, &scenario.nodes)?;
-    world.flights().hold_bytes();
     for event in scenario.events.as_slice() {
         let piece = event_piece(alloc, traced, &mut world, event, air, signer)?;
-        world.flights().hold_bytes();
+        let _frames = air.frames();
         write_all(sink, piece.as_slice())?;
     }
     write_end(alloc, &world, air, sink)?;

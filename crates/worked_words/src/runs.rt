@@ -1,12 +1,12 @@
 //! Lines of runs.
 
 use data_models::{KindValues, Selector, SlotKey, Specifier, StoreKind, StoredData};
-use frames_in_flight::Flights;
+use frames_in_flight::FrameError;
 use node_model::{Notice, Told};
-use reload_base::{Bytes, List, NoMemory};
+use reload_base::{Air, Bytes, List, MemoryAir, NoMemory, Sent};
 use reload_ids::{NodeId, ResourceId};
 use request_words::{DeclaredNode, Role};
-use run_model::{Fate, Flight, Happening};
+use run_model::Happening;
 use run_text::*;
 use std::alloc::Global;
 use std::test::Fail;
@@ -198,29 +198,42 @@ refused 69 busy
     Ok(())
 }
 
-fn flight(alloc: Global, sender: u32, hearer: u32, bytes: &[u8]) -> Result<Flight, NoMemory> {
-    Ok(Flight {
-        sender,
-        hearer,
-        bytes: Bytes::from_slice(alloc, bytes)?,
-        fate: Fate::Lost,
-    })
+// Puts a short frame into an air.
+fn sent(
+    alloc: Global,
+    air: &mut MemoryAir,
+    from: u32,
+    to: u32,
+    bytes: &[u8],
+) -> Result<(), FrameError> {
+    if bytes.is_empty() || 100 < bytes.len() || 1_000 < air.size() {
+        return Err(FrameError::Failed);
+    }
+    match air.send(alloc, from, to, bytes) {
+        Sent::Ok => Ok(()),
+        Sent::Failed => Err(FrameError::Failed),
+        Sent::NoMemory => Err(FrameError::NoMemory),
+    }
 }
 
 #[test]
-fn frames_behind_the_first(rt: HostRuntime) -> Result<(), Fail> {
+fn frames_behind_the_first(rt: HostRuntime) -> Result<(), FrameError> {
     let alloc = rt.alloc();
-    let mut all = List::new(alloc);
-    all.push(flight(alloc, 4, 3, b"\x80\x00")?)?;
-    all.push(flight(alloc, 3, 4, b"\x81\x00\x00\x00\x01\x00\x00\x00\x00")?)?;
-    all.push(flight(alloc, 3, 0, b"\xaf")?)?;
-    let mut flights = Flights::new(alloc);
-    flights.append(all)?;
+    let mut air = MemoryAir::new(alloc, &[])?;
+    sent(alloc, &mut air, 4, 3, b"\x80\x00")?;
+    sent(
+        alloc,
+        &mut air,
+        3,
+        4,
+        b"\x81\x00\x00\x00\x01\x00\x00\x00\x00",
+    )?;
+    sent(alloc, &mut air, 3, 0, b"\xaf")?;
     let mut out = Bytes::new(alloc);
-    put_frames(&mut out, &flights, 1)?;
-    put_frames(&mut out, &flights, 3)?;
-    put_frames(&mut out, &flights, 4)?;
-    put_frames(&mut out, &flights, 0)?;
+    put_frames(alloc, &mut out, &mut air, 1)?;
+    put_frames(alloc, &mut out, &mut air, 3)?;
+    put_frames(alloc, &mut out, &mut air, 4)?;
+    put_frames(alloc, &mut out, &mut air, 0)?;
     let lines = b"frame 2 3 4 810000000100000000
 frame 3 3 0 af
 frame 1 4 3 8000

@@ -4,6 +4,8 @@ use Rattle.reload_base.specs.Outside.{AirView}
 use Rattle.node_messages.specs.Signed.{SignerWords, words_of}
 use Rattle.scenario_run.specs.Runs.{first_of}
 use Rattle.scenario_run.specs.Outcomes.{Outlets}
+use Rattle.overlay_world.specs.Standings.{world_in}
+use Rattle.scenario_run.proofs.Ends.{bytes_hold}
 use Rattle.scenario_run.proofs.Declared.{are_declared}
 use Rattle.scenario_run.proofs.Loops.{breaks_echo, breaks_world, starts, in_time, goes_on, breaks_in, breaks_lines, ended, breaks_last, completes}
 use Rattle.scenario_run.proofs.run.run_scenario.Goals as goal
@@ -32,7 +34,7 @@ loop-event-init g c =
     let words : SignerWords = words_of g.G.Signer.certificate_of g.G.Signer.signature_of g.G.Signer.about_of g.G.Signer.verifies c.args.signer.now in
     let before : Outlets = record { sink = g.K.Sink.view c.args.sink.now; air = g.A.Air.view c.args.air.now } in
     let after : Outlets = record { sink = g.K.Sink.view c.write_echo.new.sink; air = g.A.Air.view c.args.air.now } in
-    starts words c.args.traced c.args.scenario.now c.as_slice-event-items.result.now c.in_ok-world.world before after (unfold first_of in c.in_ok-world.ensures) c.requires.empty refl c.in_ok-write_echo.ensures
+    starts words c.args.traced c.args.scenario.now c.as_slice-event-items.result.now (world_in c.in_ok-world.world (g.A.Air.view c.args.air.now)) before after (unfold first_of in c.in_ok-world.ensures (g.A.Air.view c.args.air.now)) c.requires.empty refl c.in_ok-write_echo.ensures
 
 pub returns-in_err-piece : goal.returns-in_err-piece
 returns-in_err-piece g c =
@@ -41,7 +43,7 @@ returns-in_err-piece g c =
     let before : Outlets = record { sink = g.K.Sink.view c.args.sink.now; air = g.A.Air.view c.args.air.now } in
     let mid : Outlets = record { sink = g.K.Sink.view c.loop-event.sink; air = g.A.Air.view c.loop-event.air } in
     let after : Outlets = record { sink = g.K.Sink.view c.loop-event.sink; air = g.A.Air.view c.event_piece.new.air } in
-    rw (p.1, p.2) (breaks_in words c.args.traced c.args.scenario.now c.as_slice-event-items.result.now c.loop-event.event-index c.event-item.result c.loop-event.world before mid after c.in_err-piece.field-0.0
+    rw (p.1, p.2) (breaks_in words c.args.traced c.args.scenario.now c.as_slice-event-items.result.now c.loop-event.event-index c.event-item.result (world_in c.loop-event.world (g.A.Air.view c.loop-event.air)) before mid after c.in_err-piece.field-0.0
     c.requires.scenario c.as_slice-event-items.ensures c.loop-event-test.true c.event-item.is c.loop-event.invariant c.in_err-piece.ensures.stopped refl)
 
 pub returns-in_err-write_all : goal.returns-in_err-write_all
@@ -51,9 +53,9 @@ returns-in_err-write_all g c =
     let before : Outlets = record { sink = g.K.Sink.view c.args.sink.now; air = g.A.Air.view c.args.air.now } in
     let mid : Outlets = record { sink = g.K.Sink.view c.loop-event.sink; air = g.A.Air.view c.loop-event.air } in
     let after : Outlets = record { sink = g.K.Sink.view c.write_all.new.sink; air = g.A.Air.view c.event_piece.new.air } in
-    let bytes = rw c.flights-in-loop-event.ensures at c.hold_bytes-in-loop-event.ensures in
+    let bytes = bytes_hold c.event_piece.new.world (g.A.Air.view c.event_piece.new.air) c.frames-frames.ensures.bytes in
     let stops = rw (c.as_slice.ensures, c.in_ok-piece.ensures.piece) at c.in_err-write_all.ensures in
-    rw (p.1, p.2) (breaks_lines words c.args.traced c.args.scenario.now c.as_slice-event-items.result.now c.loop-event.event-index c.event-item.result c.loop-event.world c.event_piece.new.world before mid after c.in_err-write_all.field-0.0
+    rw (p.1, p.2) (breaks_lines words c.args.traced c.args.scenario.now c.as_slice-event-items.result.now c.loop-event.event-index c.event-item.result (world_in c.loop-event.world (g.A.Air.view c.loop-event.air)) (world_in c.event_piece.new.world (g.A.Air.view c.event_piece.new.air)) before mid after c.in_err-write_all.field-0.0
     c.requires.scenario c.as_slice-event-items.ensures c.loop-event-test.true c.event-item.is c.loop-event.invariant c.in_ok-piece.ensures.world c.in_ok-piece.ensures.air bytes stops)
 
 pub loop-event-preserved : goal.loop-event-preserved
@@ -62,9 +64,9 @@ loop-event-preserved g c =
     let before : Outlets = record { sink = g.K.Sink.view c.args.sink.now; air = g.A.Air.view c.args.air.now } in
     let mid : Outlets = record { sink = g.K.Sink.view c.loop-event.sink; air = g.A.Air.view c.loop-event.air } in
     let after : Outlets = record { sink = g.K.Sink.view c.write_all.new.sink; air = g.A.Air.view c.event_piece.new.air } in
-    let bytes = rw c.flights-in-loop-event.ensures at c.hold_bytes-in-loop-event.ensures in
+    let bytes = bytes_hold c.event_piece.new.world (g.A.Air.view c.event_piece.new.air) c.frames-frames.ensures.bytes in
     let adds = rw (c.as_slice.ensures, c.in_ok-piece.ensures.piece) at c.in_ok-write_all.ensures in
-    goes_on words c.args.traced c.args.scenario.now c.as_slice-event-items.result.now c.loop-event.event-index c.event-item.result c.loop-event.world c.event_piece.new.world before mid after
+    goes_on words c.args.traced c.args.scenario.now c.as_slice-event-items.result.now c.loop-event.event-index c.event-item.result (world_in c.loop-event.world (g.A.Air.view c.loop-event.air)) (world_in c.event_piece.new.world (g.A.Air.view c.event_piece.new.air)) before mid after
     c.requires.scenario c.as_slice-event-items.ensures c.loop-event-test.true c.event-item.is c.loop-event.invariant c.in_ok-piece.ensures.world c.in_ok-piece.ensures.air c.in_ok-piece.ensures.room bytes adds
 
 pub event_piece-requires-clause-clock : goal.event_piece-requires-clause-clock
@@ -72,7 +74,7 @@ event_piece-requires-clause-clock g c =
     let words : SignerWords = words_of g.G.Signer.certificate_of g.G.Signer.signature_of g.G.Signer.about_of g.G.Signer.verifies c.args.signer.now in
     let before : Outlets = record { sink = g.K.Sink.view c.args.sink.now; air = g.A.Air.view c.args.air.now } in
     let mid : Outlets = record { sink = g.K.Sink.view c.loop-event.sink; air = g.A.Air.view c.loop-event.air } in
-    in_time words c.args.traced c.args.scenario.now c.as_slice-event-items.result.now c.loop-event.event-index c.event-item.result c.loop-event.world before mid
+    in_time words c.args.traced c.args.scenario.now c.as_slice-event-items.result.now c.loop-event.event-index c.event-item.result (world_in c.loop-event.world (g.A.Air.view c.loop-event.air)) before mid
     c.requires.scenario c.requires.few c.as_slice-event-items.ensures c.loop-event-test.true c.event-item.is c.loop-event.invariant
 
 pub event_piece-requires-clause-air : goal.event_piece-requires-clause-air
@@ -91,8 +93,8 @@ returns-in_err-write_end g c =
     let before : Outlets = record { sink = g.K.Sink.view c.args.sink.now; air = g.A.Air.view c.args.air.now } in
     let mid : Outlets = record { sink = g.K.Sink.view c.loop-event.sink; air = g.A.Air.view c.loop-event.air } in
     let after : Outlets = record { sink = g.K.Sink.view c.write_end.new.sink; air = g.A.Air.view c.loop-event.air } in
-    let whole = ended words c.args.traced c.args.scenario.now c.as_slice-event-items.result.now c.loop-event.event-index c.loop-event.world before mid c.requires.scenario c.as_slice-event-items.ensures c.loop-event-test.false c.loop-event.invariant in
-    rw (p.1, p.2) (breaks_last words c.args.traced c.args.scenario.now c.loop-event.world before mid after c.in_err-write_end.field-0.0 whole refl c.in_err-write_end.ensures)
+    let whole = ended words c.args.traced c.args.scenario.now c.as_slice-event-items.result.now c.loop-event.event-index (world_in c.loop-event.world (g.A.Air.view c.loop-event.air)) before mid c.requires.scenario c.as_slice-event-items.ensures c.loop-event-test.false c.loop-event.invariant in
+    rw (p.1, p.2) (breaks_last words c.args.traced c.args.scenario.now (world_in c.loop-event.world (g.A.Air.view c.loop-event.air)) before mid after c.in_err-write_end.field-0.0 whole refl c.in_err-write_end.ensures)
 
 pub returns : goal.returns
 returns g c =
@@ -100,5 +102,5 @@ returns g c =
     let before : Outlets = record { sink = g.K.Sink.view c.args.sink.now; air = g.A.Air.view c.args.air.now } in
     let mid : Outlets = record { sink = g.K.Sink.view c.loop-event.sink; air = g.A.Air.view c.loop-event.air } in
     let after : Outlets = record { sink = g.K.Sink.view c.write_end.new.sink; air = g.A.Air.view c.loop-event.air } in
-    let whole = ended words c.args.traced c.args.scenario.now c.as_slice-event-items.result.now c.loop-event.event-index c.loop-event.world before mid c.requires.scenario c.as_slice-event-items.ensures c.loop-event-test.false c.loop-event.invariant in
-    completes words c.args.traced c.args.scenario.now c.loop-event.world before mid after whole refl c.in_ok-write_end.ensures
+    let whole = ended words c.args.traced c.args.scenario.now c.as_slice-event-items.result.now c.loop-event.event-index (world_in c.loop-event.world (g.A.Air.view c.loop-event.air)) before mid c.requires.scenario c.as_slice-event-items.ensures c.loop-event-test.false c.loop-event.invariant in
+    completes words c.args.traced c.args.scenario.now (world_in c.loop-event.world (g.A.Air.view c.loop-event.air)) before mid after whole refl c.in_ok-write_end.ensures
