@@ -1,4 +1,5 @@
 use Rattle.std.proofs.Common.{ap, sym, subst, ◌∙◌, Some}
+use Rattle.std.specs.List.{insert}
 use Rattle.std.specs.Ordering.{nat_cmp}
 use Rattle.std.specs.FinMap as map
 use Rattle.ordered_tables.specs.Places.{Rises}
@@ -11,7 +12,7 @@ invariant_of-self g c =
 
 pub invariant_of-self-in-Err : goal.invariant_of-self-in-Err
 invariant_of-self-in-Err g c =
-    subst Rises (sym c.in_ok-insert-in-Err.ensures.items)
+    subst Rises (sym (c.in_ok-insert-in-Err.ensures.items ∙ ap (λ es. insert es c.in-Err.place (c.args.key, c.args.value)) c.find_room.ensures))
     (insert_rises c.self.inside.rows.items c.args.key c.in-Err.place c.args.value c.self.invariant c.in-Err.ensures.0 c.in-Err.ensures.1 c.in-Err.ensures.2)
 
 pub returns-in-Ok-clause-before : goal.returns-in-Ok-clause-before
@@ -33,6 +34,6 @@ returns-in_ok-insert-in-Err-clause-before g c =
 
 pub returns-in_ok-insert-in-Err-clause-ok : goal.returns-in_ok-insert-in-Err-clause-ok
 returns-in_ok-insert-in-Err-clause-ok g c =
-    ap (λ es. map.from_sorted {R = nat_cmp} es) c.in_ok-insert-in-Err.ensures.items
+    ap (λ es. map.from_sorted {R = nat_cmp} es) (c.in_ok-insert-in-Err.ensures.items ∙ ap (λ es. insert es c.in-Err.place (c.args.key, c.args.value)) c.find_room.ensures)
     ∙ insert_gap c.self.inside.rows.items c.args.key c.in-Err.place c.args.value c.self.invariant c.in-Err.ensures.0 c.in-Err.ensures.1 c.in-Err.ensures.2
     ∙ ap (λ m. map.insert m c.args.key c.args.value) c.self.view_is
