@@ -73,7 +73,7 @@ fn held_at<'a>(slots: &'a Slots, key: &[u8]) -> Option<&'a Held>
     ensures { option_copied result ≡ (records.slot_in slots.now key.now).held }
 {
     match slots.table().get(key) {
-        Some(slot) => slot.held.as_ref(),
+        Some(slot) => slot.value(),
         None => None,
     }
 }
@@ -107,7 +107,7 @@ fn rest_of(now: u64, expiry: u64) -> u32
 pub fn is_live(now: u64, slot: &SlotState) -> bool
     ensures { result ≡ is_some (records.unexpired now slot.now.held) }
 {
-    match &slot.held {
+    match slot.value() {
         Some(held) => held.expiry > now,
         None => false,
     }

@@ -141,8 +141,8 @@ unfolding swept
 swept_counted now kinds all kind = subst (λ (k : KindEntry). k.generation < 2 ^ 63) (sym (kind_in-all_swept now kinds kind)) (all kind)
 
 -- the rest of a list begins with its next item
-pub tail_of : (asked : List AskedKind) (i : ℕ) (a : AskedKind) → i < length asked → a ≡ get_or asked i a → drop i asked ≡ a ∷ drop (i + 1) asked
-tail_of asked i a less is = drop-cons asked i a less ∙ ap (λ n. get_or asked i a ∷ drop n asked) (suc_one i) ∙ ap (λ x. x ∷ drop (i + 1) asked) (sym is)
+pub tail_of : {X : Type 0} (xs : List X) (i : ℕ) (x : X) → i < length xs → x ≡ get_or xs i x → drop i xs ≡ x ∷ drop (i + 1) xs
+tail_of xs i x less is = drop-cons xs i x less ∙ ap (λ n. get_or xs i x ∷ drop n xs) (suc_one i) ∙ ap (λ y. y ∷ drop (i + 1) xs) (sym is)
   where
     suc_one : (n : ℕ) → suc n ≡ n + 1
     suc_one n = omega arith

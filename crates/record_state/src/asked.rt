@@ -7,6 +7,7 @@ ghost use Rattle.storage_model.specs.Requests.{values_of};
 ghost use Rattle.storage_model.specs.Puts.{held_of, slot_of};
 ghost use Rattle.std.specs.Prelude.{◌<◌, ◌^◌};
 
+use crate::boxed_held::BoxedHeld;
 use crate::slot::SlotState;
 use data_models::SlotKey;
 use reload_base::{NoMemory, TryCopy};
@@ -55,7 +56,7 @@ pub fn slot_after(alloc: Global, now: u64, value: &Value) -> Result<SlotState, N
 {
     Ok(SlotState {
         floor: value.stored.storage_time,
-        held: Some(held_after(alloc, now, value)?),
+        held: Some(BoxedHeld::new(alloc, held_after(alloc, now, value)?)?),
     })
 }
 

@@ -1,10 +1,14 @@
 //! Expired values leave a draft of the kinds.
 
-ghost use Rattle.std.specs.Prelude.{◌≡◌, fold, IfOk, OnOk};
+ghost use Rattle.std.specs.Prelude.{ℕ, ◌≡◌, ◌∷◌, ◌++◌, Some, fold, IfOk, OnOk};
+ghost use Rattle.std.specs.Prelude as words;
+ghost use Rattle.std.specs.FinMap as map;
+ghost use Rattle.storage_model.specs.Records as records;
 ghost use Rattle.storage_model.specs.Records.{map_values, swept_slot, all_swept};
 ghost use Rattle.record_state.specs.Sweep.{swept_on, emptied_at, emptied_on, is_expired};
 
 use crate::draft::Draft;
+use crate::kind::KindState;
 use crate::kinds::Kinds;
 use crate::slot::SlotState;
 use crate::slots::Slots;
@@ -26,12 +30,22 @@ fn due_kinds(alloc: Global, now: u64, kinds: &Kinds) -> Result<List<u32>, NoMemo
     ensures { IfOk result (λ ids. fold (swept_on now) kinds.now ids ≡ all_swept now kinds.now) }
 {
     let mut ids = List::new(alloc);
-    for (id, kind) in kinds.table().tree() {
-        if kind.slots.soonest() <= now {
-            ids.push(*id as u32)?;
-        }
+    for (id, kind) in kinds.table().rows() {
+        note_due(&mut ids, now, *id as u32, kind)?;
     }
     Ok(ids)
+}
+
+/// Adds a kind to others, unless nothing in it is due: to sweep those is then to sweep it too.
+fn note_due(ids: &mut List<u32>, now: u64, id: u32, kind: &KindState) -> Result<(), NoMemory>
+    ensures { (kinds : records.Kinds) (rest : words.List ℕ) → map.get kinds id ≡ Some kind.now
+        → OnOk result (fold (swept_on now) kinds (ids.new ++ rest)
+        ≡ fold (swept_on now) kinds (ids.old ++ id ∷ rest)) }
+{
+    if now < kind.slots.soonest() {
+        return Ok(());
+    }
+    ids.push(id)
 }
 
 fn sweep_all(draft: &mut Draft, alloc: Global, now: u64, ids: &[u32]) -> Result<(), NoMemory>
@@ -109,7 +123,7 @@ fn is_due(now: u64, slot: &SlotState) -> bool
     ensures { result ≡ is_expired now slot.now }
 {
     match &slot.held {
-        Some(held) => held.expiry <= now,
+        Some(held) => held.get().expiry <= now,
         None => false,
     }
 }

@@ -9,7 +9,7 @@ ghost use Rattle.std.specs.FinMap as map;
 use crate::kind::KindState;
 use crate::slot::SlotState;
 use crate::undo::{KindsUndo, Undo};
-use ordered_tables::NumberTable;
+use ordered_tables::SortedTable;
 use reload_base::{Bytes, NoMemory, TryCopy};
 use std::alloc::Global;
 use std::marker::Model;
@@ -17,7 +17,7 @@ use std::marker::Model;
 /// The kinds of a record, by Kind-ID. Contracts see the map.
 #[derive(Debug, Drop)]
 pub struct Kinds {
-    table: NumberTable<KindState>,
+    table: SortedTable<KindState>,
     /// What they weigh, each counted no further than a record may weigh.
     weight: u128,
 }
@@ -47,13 +47,13 @@ impl Kinds {
         ensures { result ≡ map.empty }
     {
         Kinds {
-            table: NumberTable::new(alloc),
+            table: SortedTable::new(alloc),
             weight: 0,
         }
     }
 
     /// The kinds by their Kind-IDs.
-    pub fn table(&self) -> &NumberTable<KindState>
+    pub fn table(&self) -> &SortedTable<KindState>
         ensures kinds { result.now ≡ self.now }
         ensures ids { AreKindIds self.now }
     {

@@ -1,8 +1,9 @@
-//! The kinds of a record, in ordered maps: what they hold, how a Store changes them, and how each
-//! change is undone.
+//! The kinds of a record, in a sorted list, with their slots in ordered maps: what they hold, how a
+//! Store changes them, and how each change is undone.
 #![tactic(auto)]
 
 mod asked;
+mod boxed_held;
 mod counters;
 mod draft;
 mod expired;

@@ -1,10 +1,11 @@
 //! A slot as a record keeps it.
 
 ghost use Rattle.std.specs.Prelude.{◌≡◌, ◌+◌, ◌≤◌, IfOk};
-ghost use Rattle.std.specs.Option.{option_map_or};
+ghost use Rattle.std.specs.Option.{option_copied, option_map_or};
 ghost use Rattle.record_state.specs.Light.{counted};
 ghost use Rattle.record_state.specs.Light as light;
 
+use crate::boxed_held::BoxedHeld;
 use reload_base::{NoMemory, TryCopy};
 use std::alloc::Global;
 use std::marker::Model;
@@ -14,7 +15,7 @@ use storage_model::{Held, MAX_WEIGHT, SLOT_WEIGHT};
 #[derive(Debug, Drop)]
 pub struct SlotState {
     pub floor: u64,
-    pub held: Option<Held>,
+    pub(crate) held: Option<BoxedHeld>,
 }
 
 impl Model for SlotState {
@@ -28,6 +29,18 @@ impl Model for SlotState {
     ghost view = { λ s. record { floor = s.floor; held = s.held } };
 }
 
+impl SlotState {
+    /// Its value.
+    pub fn value(&self) -> Option<&Held>
+        ensures { option_copied result ≡ self.now.held }
+    {
+        match &self.held {
+            Some(held) => Some(held.get()),
+            None => None,
+        }
+    }
+}
+
 /// A weight isn't counted further than this: it is too much for a record.
 pub const ENOUGH: u128 = MAX_WEIGHT as u128 + 1;
 
@@ -36,7 +49,7 @@ pub fn slot_weight(key: usize, slot: &SlotState) -> u128
     ensures { result ≡ counted (SLOT_WEIGHT + key + option_map_or (λ h. h.size) slot.now.held 0) }
 {
     let size = match &slot.held {
-        Some(held) => u128::from(held.size),
+        Some(held) => u128::from(held.get().size),
         None => 0,
     };
     ENOUGH.min(SLOT_WEIGHT as u128 + key as u128 + size)
@@ -47,7 +60,7 @@ pub fn expiry_of(slot: &SlotState) -> u64
     ensures { result ≤ light.expiry_of slot.now.held }
 {
     match &slot.held {
-        Some(held) => held.expiry,
+        Some(held) => held.get().expiry,
         None => u64::MAX,
     }
 }
@@ -73,7 +86,7 @@ impl TryCopy for SlotState {
 }
 
 /// A copy of the value of a slot.
-fn copy_held(alloc: Global, held: &Option<Held>) -> Result<Option<Held>, NoMemory>
+fn copy_held(alloc: Global, held: &Option<BoxedHeld>) -> Result<Option<BoxedHeld>, NoMemory>
     ensures { IfOk result (λ copy. copy ≡ held.now) }
 {
     match held {

@@ -5,13 +5,14 @@ ghost use Rattle.std.specs.FinMap as map;
 ghost use Rattle.record_state.specs.Written as written;
 ghost use Rattle.record_state.specs.Written.{Follows};
 
+use crate::boxed_held::BoxedHeld;
 use crate::kind::KindState;
 use crate::kinds::Kinds;
 use crate::slot::SlotState;
 use crate::slots::Slots;
 use reload_base::{Bytes, List, NoMemory, TryCopy};
 use std::alloc::Global;
-use storage_model::{KindRecord, Slot};
+use storage_model::{Held, KindRecord, Slot};
 
 impl Kinds {
     /// Adds a kind behind those that are there. After `NoMemory` all is as before.
@@ -36,7 +37,7 @@ impl Kinds {
         ensures { IfOk result (λ all. all ≡ written.kind_records self.now) }
     {
         let mut all = List::new(alloc);
-        for (id, kind) in self.table().tree() {
+        for (id, kind) in self.table().rows() {
             all.push(record_of(alloc, *id as u32, kind)?)?;
         }
         Ok(all)
@@ -62,25 +63,64 @@ fn copied(alloc: Global, slots: &Slots) -> Result<List<Slot>, NoMemory>
 {
     let mut all = List::new(alloc);
     for (key, slot) in slots.table().tree() {
-        let copy = slot.copy(alloc)?;
-        all.push(Slot {
-            key: Bytes::from_slice(alloc, key.as_slice())?,
-            floor: copy.floor,
-            held: copy.held,
-        })?;
+        all.push(slot_record_of(alloc, key.as_slice(), slot)?)?;
     }
     Ok(all)
 }
 
-/// Slots by their keys, which rise. Their memory moves.
+/// A copy of a slot with its key.
+fn slot_record_of(alloc: Global, key: &[u8], slot: &SlotState) -> Result<Slot, NoMemory>
+    ensures { IfOk result (λ s. s ≡ written.slot_record (key.now, slot.now)) }
+{
+    Ok(Slot {
+        key: Bytes::from_slice(alloc, key)?,
+        floor: slot.floor,
+        held: held_copied(alloc, slot)?,
+    })
+}
+
+/// A copy of the value of a slot.
+fn held_copied(alloc: Global, slot: &SlotState) -> Result<Option<Held>, NoMemory>
+    ensures { IfOk result (λ held. held ≡ slot.now.held) }
+{
+    match &slot.held {
+        Some(held) => Ok(Some(held.get().copy(alloc)?)),
+        None => Ok(None),
+    }
+}
+
+/// Slots by their keys, which rise. Their keys and bytes move.
 fn slots_of(alloc: Global, slots: List<Slot>) -> Result<Slots, NoMemory>
     requires { written.HaveRisingKeys slots }
     ensures { IfOk result (λ all. all ≡ written.slots_written slots) }
 {
     let mut all = Slots::new(alloc);
     for slot in slots.into_vec() {
-        let Slot { key, floor, held } = slot;
-        all.add(key, SlotState { floor, held })?;
+        let (key, state) = entry_of(alloc, slot)?;
+        all.add(key, state)?;
     }
     Ok(all)
+}
+
+/// A slot and its key, which move.
+fn entry_of(alloc: Global, slot: Slot) -> Result<(Bytes, SlotState), NoMemory>
+    ensures key { IfOk result (λ entry. entry.0 ≡ slot.key) }
+    ensures state { IfOk result (λ entry. entry.1 ≡ (written.slot_entry slot).1) }
+{
+    let Slot { key, floor, held } = slot;
+    let state = SlotState {
+        floor,
+        held: held_boxed(alloc, held)?,
+    };
+    Ok((key, state))
+}
+
+/// The value of a slot, in memory of its own.
+fn held_boxed(alloc: Global, held: Option<Held>) -> Result<Option<BoxedHeld>, NoMemory>
+    ensures { IfOk result (λ boxed. boxed ≡ held) }
+{
+    match held {
+        Some(held) => Ok(Some(BoxedHeld::new(alloc, held)?)),
+        None => Ok(None),
+    }
 }
