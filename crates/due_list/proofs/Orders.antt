@@ -64,7 +64,7 @@ in_order_without p (x ∷ xs) h =
       | false ↦ (all-without (StandsBefore x) p xs h.0, in_order_without p xs h.1)
     ]
 
-none-here : {X : Type 0} (b : Bool) (x : X) (o : Option X) → cond b (Some x) o ≡ None → (b ≡ false) × (o ≡ None)
+pub none-here : {X : Type 0} (b : Bool) (x : X) (o : Option X) → cond b (Some x) o ≡ None → (b ≡ false) × (o ≡ None)
 none-here true x o e = absurd (cc)
 none-here false x o e = (refl, e)
 
@@ -79,7 +79,7 @@ apart_from_none e (x ∷ xs) p q =
     differs : (a b : ℕ) → (b == a) ≡ false → a ≡ b → ⊥
     differs a b f i = grind (arith, nat_tests, f, i)
 
-all-found : (P : Entry → Type 0) (p : ℕ) (xs : List Entry) (e : Entry) → AllByRecursion P xs → entry_at p xs ≡ Some e → P e
+pub all-found : (P : Entry → Type 0) (p : ℕ) (xs : List Entry) (e : Entry) → AllByRecursion P xs → entry_at p xs ≡ Some e → P e
 all-found P p [] e h f = absurd (cc)
 all-found P p (x ∷ xs) e h f =
     elim (x.place == p) as (λ b. cond b (Some x) (entry_at p xs) ≡ Some e → P e) [

@@ -2,10 +2,12 @@
 use Rattle.std.specs.Prelude.{ℕ, ◌≡◌, ◌==◌, ◌<◌, nat_lt, Bool, true, cond, ◌||◌, ◌&&◌, List, [], ◌∷◌, Option, Some, None, IsTrue, find}
 use Rattle.std.specs.List.{AllByRecursion}
 
--- when something is due, in milliseconds, under which id, and the place by which it is reached
+-- when something is due, in milliseconds, under which id, whose it is, if it has an owner, and the
+-- place by which it is reached
 pub record Entry : Type 0 where
   pub due : ℕ
   pub id : ℕ
+  pub owner : Option ℕ
   pub place : ℕ
 
 -- entries in order, and the number of further ones for which memory is surely there

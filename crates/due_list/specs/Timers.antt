@@ -5,7 +5,7 @@ use Rattle.due_list.specs.Entries.{Entry}
 
 -- a timer as an entry, whose place is its id
 abbrev pub placed : Timer → Entry
-placed t = record { due = t.due; id = t.id; place = t.id }
+placed t = record { due = t.due; id = t.id; owner = t.owner; place = t.id }
 
 -- timers as entries
 abbrev pub all_placed : List Timer → List Entry

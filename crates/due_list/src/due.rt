@@ -10,9 +10,9 @@ use reload_base::NoMemory;
 use std::alloc::Global;
 use std::marker::Model;
 
-/// Entries by the time at which they are due, each under an id of its own. Contracts see the list
-/// of the entries by rising time and id, each with its place, and the number of further ones for
-/// which memory is surely there.
+/// Entries by the time at which they are due, each under an id of its own, and with an owner where
+/// it has one. Contracts see the list of the entries by rising time and id, each with its place, and
+/// the number of further ones for which memory is surely there.
 #[derive(Debug, Drop)]
 pub struct Due {
     timers: Vec<Timer>,
@@ -53,21 +53,45 @@ impl Due {
         Ok(())
     }
 
-    /// Adds an entry for a new id, due at a time in milliseconds, and answers its place. It can't
-    /// fail where memory is there, and takes that of at most one. After `NoMemory` the entries are
-    /// as before.
+    /// Adds an entry for a new id, which has no owner, due at a time in milliseconds, and answers
+    /// its place. It can't fail where memory is there, and takes that of at most one. After
+    /// `NoMemory` the entries are as before.
     pub fn insert(&mut self, due: u64, id: u64) -> Result<Place, NoMemory>
         requires { entry_of id self.old.entries ≡ None }
-        ensures ok { IfOk result (λ place. self.new.entries
-            ≡ with_entry (record { due = due; id = id; place = place }) self.old.entries) }
+        ensures ok { IfOk result (λ place. self.new.entries ≡ with_entry
+            (record { due = due; id = id; owner = None; place = place }) self.old.entries) }
         ensures err { OnErr result (self.new.entries ≡ self.old.entries) }
         ensures kept { OnErr result (self.old.spare ≤ self.new.spare) }
         ensures succeeds { 0 < self.old.spare → IsOk result }
         ensures spare { self.old.spare ≤ self.new.spare + 1 }
         ensures sound { AreInOrder self.new.entries }
     {
-        put(&mut self.timers, Timer { due, id })?;
+        self.insert_for(None, due, id)
+    }
+
+    /// Adds an entry for a new id as `insert` does, with its owner, if it has one.
+    pub fn insert_for(&mut self, owner: Option<u128>, due: u64, id: u64) -> Result<Place, NoMemory>
+        requires { entry_of id self.old.entries ≡ None }
+        ensures ok { IfOk result (λ place. self.new.entries ≡ with_entry
+            (record { due = due; id = id; owner = owner; place = place }) self.old.entries) }
+        ensures err { OnErr result (self.new.entries ≡ self.old.entries) }
+        ensures kept { OnErr result (self.old.spare ≤ self.new.spare) }
+        ensures succeeds { 0 < self.old.spare → IsOk result }
+        ensures spare { self.old.spare ≤ self.new.spare + 1 }
+        ensures sound { AreInOrder self.new.entries }
+    {
+        put(&mut self.timers, Timer { due, id, owner })?;
         Ok(Place::of(id))
+    }
+
+    /// The place of the entry of an id.
+    pub fn place_of(&self, id: u64) -> Place
+        requires { IsSome (entry_of id self.now.entries) }
+        ensures place { entry_at result self.now.entries ≡ entry_of id self.now.entries }
+        ensures sound { AreInOrder self.now.entries }
+    {
+        let _timers = &self.timers;
+        Place::of(id)
     }
 
     /// Takes the entry at a place out, and answers its id. The memory serves one more.
@@ -88,6 +112,16 @@ impl Due {
     {
         let timer = self.timers.first()?;
         Some((timer.due, timer.id))
+    }
+
+    /// When the first entry is due, in milliseconds, its id, and its owner.
+    pub fn first(&self) -> Option<(u64, u64, Option<u128>)>
+        ensures first { result
+            ≡ option_map (λ e. (e.due, e.id, e.owner)) (slice_get self.now.entries 0) }
+        ensures sound { AreInOrder self.now.entries }
+    {
+        let timer = self.timers.first()?;
+        Some((timer.due, timer.id, timer.owner))
     }
 
     /// Makes the entry at a place due at another time, in milliseconds. It keeps its place.

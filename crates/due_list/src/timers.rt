@@ -7,11 +7,12 @@ ghost use Rattle.due_list.specs.Timers.{placed, all_placed};
 use crate::place::Place;
 use reload_base::NoMemory;
 
-/// When an id is due, in milliseconds.
+/// When an id is due, in milliseconds, and whose it is.
 #[derive(Clone, Copy, Debug)]
 pub struct Timer {
     pub due: u64,
     pub id: u64,
+    pub owner: Option<u128>,
 }
 
 /// Where the timer of an id stands.

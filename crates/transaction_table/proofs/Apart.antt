@@ -51,7 +51,7 @@ all-both : (P Q : Message → Type 0) (ms : List Message) → AllByRecursion P m
 all-both P Q [] h k = tt
 all-both P Q (m ∷ ms) h k = ((h.0, k.0), all-both P Q ms h.1 k.1)
 
-all-push : (P : Message → Type 0) (ms : List Message) (m : Message) → AllByRecursion P ms → P m → AllByRecursion P (ms ++ m ∷ [])
+pub all-push : (P : Message → Type 0) (ms : List Message) (m : Message) → AllByRecursion P ms → P m → AllByRecursion P (ms ++ m ∷ [])
 all-push P [] m h p = (p, tt)
 all-push P (x ∷ ms) m h p = (h.0, all-push P ms m h.1 p)
 

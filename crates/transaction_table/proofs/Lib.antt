@@ -1,5 +1,7 @@
 pub mod Apart
-pub mod Once
+pub mod Listed
 pub mod NumberMaps
+pub mod Once
 pub mod Outboxes
+pub mod Timed
 pub mod Timers

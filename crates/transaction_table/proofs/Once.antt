@@ -21,13 +21,13 @@ by_reverse Less e = absurd (cc)
 by_reverse Equal e = refl
 by_reverse Greater e = absurd (cc)
 
-same_key : (k : ℕ) → eq_by_cmp nat_cmp k k ≡ true
+pub same_key : (k : ℕ) → eq_by_cmp nat_cmp k k ≡ true
 same_key k = by_reverse (nat_cmp k k) (nat_cmp_total.antisymm k k)
 
-get_put : {X : Type 0} (m : FinMap nat_cmp X) (k : ℕ) (x : X) → get (insert m k x) k ≡ Some x
+pub get_put : {X : Type 0} (m : FinMap nat_cmp X) (k : ℕ) (x : X) → get (insert m k x) k ≡ Some x
 get_put m k x = get-insert nat_cmp_total m k x k ∙ ap (λ b. cond b (Some x) (get m k)) (same_key k)
 
-get_removed : {X : Type 0} (m : FinMap nat_cmp X) (k : ℕ) → get (remove m k) k ≡ None
+pub get_removed : {X : Type 0} (m : FinMap nat_cmp X) (k : ℕ) → get (remove m k) k ≡ None
 get_removed m k = get-remove nat_cmp_total m k k ∙ ap (λ b. cond b None (get m k)) (same_key k)
 
 none_spot : (peer id : ℕ) (t : Txns) → head_spot peer id (get t.outboxes peer) ≡ None → request_spot peer id (get t.issued id) ≡ None → spot_of peer id t ≡ None

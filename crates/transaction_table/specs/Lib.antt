@@ -2,3 +2,4 @@ pub mod Codes
 pub mod Outboxes
 pub mod Sends
 pub mod Tables
+pub mod Timed

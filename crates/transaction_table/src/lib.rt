@@ -8,6 +8,7 @@ mod outbox;
 mod queue;
 mod spot;
 mod table;
+mod timing;
 mod txn;
 
 pub use again::{Again, Taken, Ticked};

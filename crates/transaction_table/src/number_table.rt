@@ -2,9 +2,7 @@
 
 ghost use Rattle.std.specs.Prelude.{◌≡◌, ◌<◌, ◌^◌, Some, None, IfOk, OnOk, OnErr};
 ghost use Rattle.std.specs.Option.{option_copied, option_map};
-ghost use Rattle.std.specs.Ordering.{nat_cmp};
 ghost use Rattle.std.specs.FinMap as map;
-ghost use Rattle.ordered_tables.specs.Seen.{shown, IsRising};
 ghost use Rattle.transaction_table.specs.Outboxes.{again_outbox, again_request, behind, changed, next_in, next_of, promoted_head, put_some};
 
 use crate::outbox::{Message, Outbox, Request};
@@ -59,12 +57,11 @@ impl<V> NumberTable<V> {
         self.tree.get(&key)
     }
 
-    /// The keys and values, in their order.
-    pub fn tree(&self) -> &BTreeMap<u128, V>
-        ensures entries { map.entries self.now ≡ shown (λ k. k) result.now.entries }
-        ensures rising { IsRising (λ k. k) nat_cmp result.now.entries }
+    /// Whether a key has a value.
+    pub fn has(&self, key: u128) -> bool
+        ensures { result ≡ map.contains_key self.now key }
     {
-        &self.tree
+        self.get(key).is_some()
     }
 }
 
@@ -89,6 +86,13 @@ impl<V: Drop> NumberTable<V> {
 }
 
 impl NumberTable<Outbox> {
+    /// The transaction id of the head to a node.
+    pub fn head_id(&self, key: u128) -> Option<u64>
+        ensures { result ≡ option_map (λ o. o.head.id) (map.get self.now key) }
+    {
+        Some(self.get(key)?.head.id)
+    }
+
     /// Puts a message behind the others to a node. Where there are none, nothing changes. After
     /// `NoMemory` the table is as before.
     pub fn push(&mut self, key: u128, message: Message) -> Result<(), NoMemory>

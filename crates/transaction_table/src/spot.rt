@@ -1,7 +1,7 @@
 //! Where an outstanding transaction stands.
 
-ghost use Rattle.std.specs.Prelude.{◌≡◌, Some};
-ghost use Rattle.transaction_table.specs.Tables.{comes_before, earlier};
+ghost use Rattle.std.specs.Prelude.{◌≡◌};
+ghost use Rattle.transaction_table.specs.Timed.{timer_at};
 
 /// Where an outstanding transaction stands.
 #[derive(Clone, Copy, Debug)]
@@ -20,14 +20,14 @@ pub struct Timer {
     pub spot: Spot,
 }
 
-/// The first of two timers.
-pub fn earlier_of(best: Option<Timer>, timer: Timer) -> Timer
-    ensures { Some result ≡ earlier best timer }
+/// The timer of what is due at a time under an id: of the head of the outbox to its owner, or,
+/// where it has none, of a request outside the outboxes.
+pub fn timer_of(due: u64, id: u64, owner: Option<u128>) -> Timer
+    ensures { result ≡ timer_at (due, id, owner) }
 {
-    match best {
-        Some(best) if !(timer.due < best.due || timer.due == best.due && timer.id < best.id) => {
-            best
-        }
-        _ => timer,
-    }
+    let spot = match owner {
+        Some(peer) => Spot::Head(peer),
+        None => Spot::Issued(id),
+    };
+    Timer { due, id, spot }
 }

@@ -4,18 +4,19 @@ ghost use Rattle.std.specs.Prelude.{◌≡◌, ◌==◌, ◌<◌, ◌^◌, not, 
 ghost use Rattle.std.specs.Option.{option_copied, option_map};
 ghost use Rattle.std.specs.FinMap as maps;
 ghost use Rattle.transaction_table.specs.Tables as txns;
-ghost use Rattle.transaction_table.specs.declared.spot.Spot.TheVariants.{Head};
+ghost use Rattle.transaction_table.specs.declared.spot.Spot.TheVariants.{Head, Issued};
 
 use crate::RESEND_AFTER;
 use crate::again::{Taken, Ticked};
 use crate::number_table::NumberTable;
 use crate::outbox::{Outbox, Request};
-use crate::spot::{Spot, Timer, earlier_of};
+use crate::spot::{Spot, Timer, timer_of};
+use crate::timing::{clear, pass, set};
 use crate::txn::{Outstanding, Queued, Txn};
+use due_list::Due;
 use reload_base::NoMemory;
 use reload_ids::NodeId;
 use std::alloc::Global;
-use std::collections::BTreeMap;
 use std::marker::Model;
 
 /// The transactions of a node: its outboxes, of each of which the head alone is outstanding, and
@@ -25,10 +26,14 @@ pub struct Table {
     alloc: Global,
     outboxes: NumberTable<Outbox>,
     issued: NumberTable<Request>,
+    /// An entry for each outstanding transaction, under its id. The peer whose outbox it heads is
+    /// its owner; a request outside the outboxes has none.
+    due: Due,
 }
 
 impl Model for Table {
     ghost use Rattle.transaction_table.specs.Tables.{Txns, AreApart};
+    ghost use Rattle.transaction_table.specs.Timed.{IsListed};
     ghost use Rattle.transaction_table.specs.Codes.{txns_code};
 
     ghost Value = { Txns };
@@ -37,7 +42,8 @@ impl Model for Table {
 
     ghost view = { λ t. record { outboxes = t.outboxes; issued = t.issued } };
 
-    ghost invariant = { λ t. AreApart (record { outboxes = t.outboxes; issued = t.issued }) };
+    ghost invariant = { λ t. AreApart (record { outboxes = t.outboxes; issued = t.issued })
+        × IsListed t.due.entries (record { outboxes = t.outboxes; issued = t.issued }) };
 }
 
 impl Table {
@@ -50,6 +56,7 @@ impl Table {
             alloc,
             outboxes: NumberTable::new(alloc),
             issued: NumberTable::new(alloc),
+            due: Due::new(alloc),
         }
     }
 
@@ -73,12 +80,15 @@ impl Table {
         ensures err { OnErr result (self.new ≡ self.old) }
     {
         let (peer, message) = t.into_message_of();
-        if self.outboxes.get(peer.0).is_some() {
+        if self.outboxes.has(peer.0) {
             self.outboxes.push(peer.0, message)?;
             return Ok(false);
         }
+        self.due.reserve(1)?;
+        let id = message.id;
         let outbox = Outbox::new(self.alloc, now, message);
         self.outboxes.insert(peer.0, outbox)?;
+        set(&mut self.due, id, now + RESEND_AFTER, Some(peer.0));
         Ok(true)
     }
 
@@ -91,14 +101,16 @@ impl Table {
         ensures err { OnErr result (self.new ≡ self.old) }
     {
         let (peer, message) = t.into_message_of();
-        let key = u128::from(message.id);
+        self.due.reserve(1)?;
+        let id = message.id;
         let request = Request {
             peer,
             message,
             sends: 1,
             due: now + RESEND_AFTER,
         };
-        self.issued.insert(key, request)?;
+        self.issued.insert(u128::from(id), request)?;
+        set(&mut self.due, id, now + RESEND_AFTER, None);
         Ok(())
     }
 
@@ -135,7 +147,9 @@ impl Table {
     pub fn forget(&mut self, peer: NodeId)
         ensures { self.new ≡ txns.forgotten peer.0 self.old }
     {
-        self.outboxes.remove(peer.0);
+        if let Some(outbox) = self.outboxes.remove(peer.0) {
+            clear(&mut self.due, outbox.head.id);
+        }
     }
 
     /// The bytes of the outstanding transaction with a peer and an id.
@@ -221,8 +235,8 @@ impl Table {
     fn first(&self) -> Option<Timer>
         ensures { result ≡ txns.first_from None (txns.timers self.now) }
     {
-        let head = first_head(self.outboxes.tree());
-        first_request(head, self.issued.tree())
+        let (due, id, owner) = self.due.first()?;
+        Some(timer_of(due, id, owner))
     }
 
     /// The peer and the id of the transaction at a spot, and how many times it was sent.
@@ -247,8 +261,29 @@ impl Table {
         ensures { self.new ≡ txns.repeated now spot self.old }
     {
         match spot {
-            Spot::Head(peer) => self.outboxes.repeat_head(peer, now),
-            Spot::Issued(id) => self.issued.repeat_request(u128::from(id), now),
+            Spot::Head(peer) => self.repeat_head(peer, now),
+            Spot::Issued(id) => self.repeat_request(id, now),
+        }
+    }
+
+    fn repeat_head(&mut self, peer: u128, now: u64)
+        requires { now < 2 ^ 62 }
+        ensures { self.new ≡ txns.repeated now (Head peer) self.old }
+    {
+        self.outboxes.repeat_head(peer, now);
+        if let Some(id) = self.outboxes.head_id(peer) {
+            pass(&mut self.due, id, Some(id), now + RESEND_AFTER, Some(peer));
+        }
+    }
+
+    fn repeat_request(&mut self, id: u64, now: u64)
+        requires { now < 2 ^ 62 }
+        ensures { self.new ≡ txns.repeated now (Issued id) self.old }
+    {
+        let key = u128::from(id);
+        self.issued.repeat_request(key, now);
+        if self.issued.has(key) {
+            pass(&mut self.due, id, Some(id), now + RESEND_AFTER, None);
         }
     }
 
@@ -274,6 +309,8 @@ impl Table {
         let outbox = self.outboxes.get(peer)?;
         let (sends, due) = (outbox.sends, outbox.due);
         let head = self.outboxes.end_head(peer, now)?;
+        let next = self.outboxes.head_id(peer);
+        pass(&mut self.due, head.id, next, now + RESEND_AFTER, Some(peer));
         Some(Txn::outstanding(NodeId(peer), head, sends, due))
     }
 
@@ -288,42 +325,7 @@ impl Table {
             sends,
             due,
         } = self.issued.remove(u128::from(id))?;
+        clear(&mut self.due, id);
         Some(Txn::outstanding(peer, message, sends, due))
     }
-}
-
-/// The first timer of the heads.
-fn first_head(tree: &BTreeMap<u128, Outbox>) -> Option<Timer>
-    ensures { result ≡ txns.first_from None (txns.head_timers tree.now.entries) }
-{
-    let mut best = None;
-    'heads: for (peer, outbox) in tree {
-        best = Some(earlier_of(
-            best,
-            Timer {
-                due: outbox.due,
-                id: outbox.head.id,
-                spot: Spot::Head(*peer),
-            },
-        ));
-    }
-    best
-}
-
-/// The first of a timer and those of the requests outside the outboxes.
-fn first_request(best: Option<Timer>, tree: &BTreeMap<u128, Request>) -> Option<Timer>
-    ensures { result ≡ txns.first_from best (txns.request_timers tree.now.entries) }
-{
-    let mut best = best;
-    'requests: for (_, request) in tree {
-        best = Some(earlier_of(
-            best,
-            Timer {
-                due: request.due,
-                id: request.message.id,
-                spot: Spot::Issued(request.message.id),
-            },
-        ));
-    }
-    best
 }
