@@ -21,14 +21,10 @@ split_at_turn ys all x front turn =
 
 -- ---- results
 
-pub on_ok : {X E : Type 0} {P : Type 0} (r : Result X E) → P → OnOk r P
-on_ok (Ok x) p = p
-on_ok (Err e) p = tt
-
--- what follows from three things that an answer ensures
-pub on_ok_all : {X E : Type 0} {P Q R S : Type 0} (r : Result X E) → OnOk r P → OnOk r Q → OnOk r R → (P → Q → R → S) → OnOk r S
-on_ok_all (Ok x) p q t f = f p q t
-on_ok_all (Err e) p q t f = tt
+-- what follows from four things that an answer ensures
+pub on_ok_all : {X E : Type 0} {P Q R S T : Type 0} (r : Result X E) → OnOk r P → OnOk r Q → OnOk r R → OnOk r S → (P → Q → R → S → T) → OnOk r T
+on_ok_all (Ok x) p q t s f = f p q t s
+on_ok_all (Err e) p q t s f = tt
 
 -- ---- airs
 

@@ -1,19 +1,24 @@
 -- A drain: the first deliveries, and those that are left.
-use Rattle.std.proofs.Common.{◌≡◌, ℕ, zero, suc, ◌+◌, ◌-◌, ◌<◌, ◌≤◌, List, [], ◌++◌, refl, sym, ap, subst, ◌∙◌, arith, append_assoc}
+use Rattle.std.proofs.Common.{◌≡◌, ℕ, zero, suc, ◌+◌, ◌-◌, ◌<◌, ◌≤◌, List, ◌++◌, refl, sym, ap, subst, ◌∙◌, arith, append_assoc}
 use Rattle.std.specs.Prelude.{Option, Some, None, position}
 use Rattle.std.specs.Option.{option_map_or, option_and_then}
 use Rattle.std.proofs.lemmas.List.{append-nil}
 use Rattle.reload_base.specs.Outside.{AirView}
+use Rattle.request_words.specs.declared.node.DeclaredNode.{DeclaredNode}
 use Rattle.node_messages.specs.Signed.{SignerWords}
 use Rattle.run_model.specs.declared.happening.Happening.{Happening}
 use Rattle.run_model.specs.declared.moves.Move.TheVariants.{Drain}
 use Rattle.run_model.specs.Worlds.{World, Done, quiet, then_on}
 use Rattle.run_model.specs.Moves.{is_waiting, flown_at, drained}
 use Rattle.run_model.specs.Stops.{frames_in, hearer_at, IsNodeFull}
+use Rattle.run_text.specs.Lines.{happened_text}
 use Rattle.overlay_world.specs.declared.fault.StepFault.{StepFault}
 use Rattle.overlay_world.specs.Sendings.{Halts, IsFullAt}
-use Rattle.overlay_world.proofs.Airs.{same_air, halts_more, halts_same, halts_since}
+use Rattle.overlay_world.proofs.Airs.{halts_more, halts_same, halts_since}
 use Rattle.overlay_world.proofs.Frames.{adds_drained}
+use Rattle.overlay_world.specs.Parts.{Scene, world_of, IsSound, Does}
+use Rattle.overlay_world.proofs.Flown.{quiet_does}
+use Rattle.overlay_world.proofs.Lines.{more_lines, names_flown_at}
 
 -- ---- parts of a drain
 
@@ -87,58 +92,58 @@ drain_halts words k n at w old new e lt there h =
 
 -- ---- a drain on its way
 
--- so many frames were delivered: what the world is then, what happened, and what is in the air
-pub record Went (words : SignerWords) (k : ℕ) (start w : World) (happened : List Happening) (first now : AirView) : Type 0 where
-  pub world : w ≡ (drained words k start).world
-  pub told : happened ≡ (drained words k start).happened
-  pub air : now ≡ record first { sent = frames_in (drained words k start).world }
+-- an event can go on from where a part of one came to
+pub does_sound : (d : Done) (before after : Scene) → Does d before after → IsSound after
+does_sound d before after does = record {
+  held = ap (λ (a : AirView). a.sent) does.sent ∙ ap frames_in (sym does.world);
+  room = does.room;
+}
 
-pub went_first : (words : SignerWords) (start : World) (happened : List Happening) (air : AirView) → happened ≡ [] → air.sent ≡ frames_in start → Went words 0 start start happened air air
+-- none was delivered yet
+pub drained_none : (words : SignerWords) (before : Scene) → IsSound before → Does (drained words 0 (world_of before)) before before
 unfolding drained
-went_first words start happened air none has = record { world = refl; told = none; air = same_air air (frames_in start) has }
+drained_none words before sound = quiet_does (drained words 0 (world_of before)) before.standing before.standing before.air before.lines refl refl sound
 
-waits_then : (words : SignerWords) (k : ℕ) (start w : World) (o : Option ℕ) → w ≡ (drained words k start).world → o ≡ position is_waiting w.flights → position is_waiting (drained words k start).world.flights ≡ o
-waits_then words k start w o is place = ap (λ (v : World). position is_waiting v.flights) (sym is) ∙ sym place
+waits_then : (words : SignerWords) (k : ℕ) (before mid : Scene) (o : Option ℕ) → Does (drained words k (world_of before)) before mid → o ≡ position is_waiting (world_of mid).flights → position is_waiting (drained words k (world_of before)).world.flights ≡ o
+waits_then words k before mid o went place = ap (λ (v : World). position is_waiting v.flights) (sym went.world) ∙ sym place
 
-pub went_next : (words : SignerWords) (k at : ℕ) (start w same next : World) (happened later : List Happening) (first now new : AirView) → Went words k start w happened first now → same ≡ w → Some at ≡ position is_waiting w.flights
-    → next ≡ (flown_at words at same).world → later ≡ happened ++ (flown_at words at same).happened → new ≡ record now { sent = frames_in (flown_at words at same).world }
-    → Went words (k + 1) start next later first new
-went_next words k at start w same next happened later first now new went is place world told sent =
-    let d = drained words k start in
-    let more = drained_next words k at start (waits_then words k start w (Some at) went.world place) in
-    let here : same ≡ d.world = is ∙ went.world in
+-- a part of an event behind another one
+then_does : (d : Done) (next : World → Done) (before mid after : Scene) → Does d before mid → Does (next d.world) mid after → (next d.world).world.names ≡ d.world.names → Does (then_on d next) before after
+then_does d next before mid after first last named =
+    let l = next d.world in
     record {
-      world = world ∙ ap (λ (v : World). (flown_at words at v).world) here ∙ ap (λ (x : Done). x.world) (sym more);
-      told = told ∙ ap (λ (l : List Happening). l ++ (flown_at words at same).happened) went.told ∙ ap (λ (v : World). d.happened ++ (flown_at words at v).happened) here ∙ ap (λ (x : Done). x.happened) (sym more);
-      air = sent ∙ ap (λ (a : AirView). let b : AirView = record a { sent = frames_in (flown_at words at same).world } in b) went.air
-          ∙ ap (λ (v : World). let b : AirView = record first { sent = frames_in (flown_at words at v).world } in b) here
-          ∙ ap (λ (x : Done). let b : AirView = record first { sent = frames_in x.world } in b) (sym more);
+      world = last.world;
+      told = last.told
+          ∙ ap (λ x. x ++ happened_text l.world.names l.happened) (first.told ∙ ap (λ (n : List DeclaredNode). before.lines ++ happened_text n d.happened) (sym named))
+          ∙ append_assoc before.lines (happened_text l.world.names d.happened) (happened_text l.world.names l.happened)
+          ∙ ap (λ x. before.lines ++ x) (sym (more_lines l.world.names d.happened l.happened));
+      sent = last.sent ∙ ap (λ (a : AirView). let x : AirView = record a { sent = frames_in l.world } in x) first.sent;
+      room = last.room;
     }
+
+-- one more was delivered
+pub next_does : (words : SignerWords) (k at : ℕ) (before mid after : Scene) → Does (drained words k (world_of before)) before mid → Some at ≡ position is_waiting (world_of mid).flights
+    → Does (flown_at words at (world_of mid)) mid after → Does (drained words (k + 1) (world_of before)) before after
+next_does words k at before mid after went place fly =
+    let d = drained words k (world_of before) in
+    let last = subst (λ (v : World). Does (flown_at words at v) mid after) went.world fly in
+    subst (λ (x : Done). Does x before after) (sym (drained_next words k at (world_of before) (waits_then words k before mid (Some at) went place)))
+    (then_does d (flown_at words at) before mid after went last (names_flown_at words at d.world))
 
 -- as many as there are to be
-pub went_all : (words : SignerWords) (k n : ℕ) (start w : World) (happened : List Happening) (first now : AirView) → Went words k start w happened first now → k ≡ n → Went words n start w happened first now
-went_all words k n start w happened first now went e = subst (λ m. Went words m start w happened first now) e went
+pub drained_all : (words : SignerWords) (k n : ℕ) (before mid : Scene) → Does (drained words k (world_of before)) before mid → k ≡ n → Does (drained words n (world_of before)) before mid
+drained_all words k n before mid went e = subst (λ m. Does (drained words m (world_of before)) before mid) e went
 
 -- none waits any more
-pub went_end : (words : SignerWords) (k n : ℕ) (start w same : World) (happened : List Happening) (first now : AirView) → Went words k start w happened first now → same ≡ w → None ≡ position is_waiting w.flights → k ≤ n
-    → Went words n start same happened first now
-went_end words k n start w same happened first now went is place le =
-    let over = drained_end words k n start (waits_then words k start w None went.world place) le in
-    record {
-      world = is ∙ went.world ∙ ap (λ (x : Done). x.world) (sym over);
-      told = went.told ∙ ap (λ (x : Done). x.happened) (sym over);
-      air = went.air ∙ ap (λ (x : Done). let b : AirView = record first { sent = frames_in x.world } in b) (sym over);
-    }
-
--- the air has the frames of the world
-pub went_has : (words : SignerWords) (k : ℕ) (start w same : World) (happened : List Happening) (first now : AirView) → Went words k start w happened first now → same ≡ w → now.sent ≡ frames_in same
-went_has words k start w same happened first now went is =
-    ap (λ (a : AirView). a.sent) went.air ∙ ap frames_in (sym (is ∙ went.world))
+pub drained_out : (words : SignerWords) (k n : ℕ) (before mid : Scene) → Does (drained words k (world_of before)) before mid → None ≡ position is_waiting (world_of mid).flights → k ≤ n → Does (drained words n (world_of before)) before mid
+drained_out words k n before mid went place le =
+    subst (λ (x : Done). Does x before mid) (sym (drained_end words k n (world_of before) (waits_then words k before mid None went place) le)) went
 
 -- what stops the next delivery
-pub went_halts : (words : SignerWords) (k n at : ℕ) (start w same : World) (happened : List Happening) (first now new : AirView) (e : StepFault) → Went words k start w happened first now → same ≡ w → Some at ≡ position is_waiting w.flights → k < n
-    → Halts (frames_in (flown_at words at same).world) (IsFullAt at same) now new e → Halts (frames_in (drained words n start).world) (IsNodeFull words (Drain n) start) first new e
-went_halts words k n at start w same happened first now new e went is place lt h =
-    halts_since (frames_in (drained words n start).world) (IsNodeFull words (Drain n) start) first now new e (ap (λ (a : AirView). a.faults) went.air)
-    (drain_halts words k n at start now new e lt (waits_then words k start w (Some at) went.world place)
-    (subst (λ (v : World). Halts (frames_in (flown_at words at v).world) (IsFullAt at v) now new e) (is ∙ went.world) h))
+pub next_halts : (words : SignerWords) (k n at : ℕ) (before mid : Scene) (new : AirView) (e : StepFault) → Does (drained words k (world_of before)) before mid → Some at ≡ position is_waiting (world_of mid).flights → k < n
+    → Halts (frames_in (flown_at words at (world_of mid)).world) (IsFullAt at (world_of mid)) mid.air new e → Halts (frames_in (drained words n (world_of before)).world) (IsNodeFull words (Drain n) (world_of before)) before.air new e
+next_halts words k n at before mid new e went place lt h =
+    let start = world_of before in
+    halts_since (frames_in (drained words n start).world) (IsNodeFull words (Drain n) start) before.air mid.air new e (ap (λ (a : AirView). a.faults) went.sent)
+    (drain_halts words k n at start mid.air new e lt (waits_then words k before mid (Some at) went place)
+    (subst (λ (v : World). Halts (frames_in (flown_at words at v).world) (IsFullAt at v) mid.air new e) went.world h))

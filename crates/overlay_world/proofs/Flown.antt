@@ -1,10 +1,10 @@
 -- A frame that comes to its node, and a node that handles something.
-use Rattle.std.proofs.Common.{◌≡◌, ℕ, ◌-◌, ◌<◌, ◌≤◌, List, [], ◌++◌, ◌≢◌, ◌||◌, not, inl, inr, Bool, true, false, cond, length, map, refl, sym, ap, subst, ◌∙◌, arith}
-use Rattle.std.specs.Prelude.{Option, Some, None, All, ◌==◌, nat_lt, slice_get, slice_set}
+use Rattle.std.proofs.Common.{◌≡◌, ℕ, ◌-◌, ◌≤◌, List, [], ◌∷◌, ◌++◌, true, false, cond, map, refl, sym, ap, subst, ◌∙◌, arith}
+use Rattle.std.specs.Prelude.{Option, Some, None, All, slice_get, slice_set}
 use Rattle.std.specs.Option.{option_map, option_map_or, option_and_then}
 use Rattle.std.specs.Ordering.{nat_cmp}
 use Rattle.std.specs.FinMap.{FinMap, get, insert}
-use Rattle.std.proofs.lemmas.List.{append-nil, map-append}
+use Rattle.std.proofs.lemmas.List.{map-append}
 use Rattle.std.proofs.lemmas.Option.{same_Some}
 use Rattle.reload_ids.specs.declared.NodeId.{NodeId}
 use Rattle.reload_base.specs.declared.air.AirFrame.{AirFrame}
@@ -21,12 +21,16 @@ use Rattle.run_model.specs.declared.moves.Move.TheVariants.{Deliver}
 use Rattle.run_model.specs.Worlds.{World, Actor, Done, quiet, refused, acts, flight_of, after_step, handled, node_of}
 use Rattle.run_model.specs.Moves.{with_fate, is_waiting, is_hearing, flown, flown_at, is_frame, delivered, lost_at, lost, drained}
 use Rattle.run_model.specs.Stops.{air_frame, frames_in, load_of, hearer_at, IsNodeFull}
+use Rattle.run_text.specs.Lines.{happened_text}
 use Rattle.overlay_world.specs.declared.fault.StepFault.{StepFault}
 use Rattle.overlay_world.specs.declared.fault.StepFault.TheVariants.{LinkFault, AirFull, NodeFull, NoMemory}
 use Rattle.overlay_world.specs.Sendings.{sent_by, HasBytes, with_frames, IsUnheard, IsFrontOf, Halts, IsNone, IsFullAt, IsHeavy}
+use Rattle.overlay_world.specs.Standings.{Standing, world_in}
+use Rattle.overlay_world.specs.Parts.{scene_of, IsSound, Does}
 use Rattle.overlay_world.proofs.Airs.{same_air, halts_same, halts_wider}
 use Rattle.overlay_world.proofs.Bytes.{acts_some}
 use Rattle.overlay_world.proofs.Frames.{Adds, frames_fated, frames_lost, adds_flown_at}
+use Rattle.overlay_world.proofs.Lines.{no_lines}
 
 -- ---- a node that handles something
 
@@ -220,13 +224,14 @@ pub fated_has : (at : ℕ) (w : World) (f : Flight) (air : AirView) → slice_ge
 fated_has at w f air there has = has ∙ sym (frames_fated Delivered at f w there)
 
 -- a part of an event that sends and tells nothing
-pub quiet_went : (d : Done) (w next : World) (air : AirView) (happened : List Happening) → d ≡ quiet next → frames_in next ≡ frames_in w → air.sent ≡ frames_in w
-    → (next ≡ d.world) × (happened ≡ happened ++ d.happened) × (air ≡ record air { sent = frames_in d.world })
-quiet_went d w next air happened is same has = (
-  sym (ap (λ (x : Done). x.world) is),
-  sym (append-nil happened) ∙ ap (λ (x : Done). happened ++ x.happened) (sym is),
-  same_air air (frames_in d.world) (has ∙ sym same ∙ ap (λ (x : Done). frames_in x.world) (sym is)),
-)
+pub quiet_does : (d : Done) (s next : Standing) (air : AirView) (lines : List ℕ) → d ≡ quiet (world_in next air) → frames_in (world_in next air) ≡ frames_in (world_in s air) → IsSound (scene_of s air lines)
+    → Does d (scene_of s air lines) (scene_of next air lines)
+quiet_does d s next air lines is same sound = record {
+  world = sym (ap (λ (x : Done). x.world) is);
+  told = no_lines next.names lines ∙ ap (λ (x : Done). lines ++ happened_text x.world.names x.happened) (sym is);
+  sent = same_air air (frames_in d.world) (sound.held ∙ sym same ∙ ap (λ (x : Done). frames_in x.world) (sym is));
+  room = sound.room;
+}
 
 -- one in which a node put these out
 pub out_world : (n : ℕ) (w : World) (actors : FinMap nat_cmp Actor) (out : Outputs) (d : Done) (flights : List Flight) → d ≡ put_out n w actors out → flights ≡ w.flights ++ map (flight_of w.names n) out.frames
@@ -234,13 +239,23 @@ pub out_world : (n : ℕ) (w : World) (actors : FinMap nat_cmp Actor) (out : Out
 out_world n w actors out d flights is fly =
     ap (λ (l : List Flight). let v : World = record w { actors = actors; flights = l } in v) fly ∙ sym (ap (λ (x : Done). x.world) is)
 
-pub out_happened : (n : ℕ) (w : World) (actors : FinMap nat_cmp Actor) (out : Outputs) (d : Done) (happened later : List Happening) → d ≡ put_out n w actors out → later ≡ happened ++ map (Tells n) out.notices
-    → later ≡ happened ++ d.happened
-out_happened n w actors out d happened later is told = told ∙ sym (ap (λ (x : Done). happened ++ x.happened) is)
+pub out_told : (n : ℕ) (w : World) (actors : FinMap nat_cmp Actor) (out : Outputs) (d : Done) (before after : List ℕ) → d ≡ put_out n w actors out → after ≡ before ++ happened_text w.names (map (Tells n) out.notices)
+    → after ≡ before ++ happened_text d.world.names d.happened
+out_told n w actors out d before after is told = told ∙ sym (ap (λ (x : Done). before ++ happened_text x.world.names x.happened) is)
 
 pub out_air : (n : ℕ) (w : World) (actors : FinMap nat_cmp Actor) (out : Outputs) (d : Done) (old new : AirView) → d ≡ put_out n w actors out → old.sent ≡ frames_in w → new ≡ with_frames old (sent_by w.names n out.frames)
     → new ≡ record old { sent = frames_in d.world }
 out_air n w actors out d old new is has sent = sent ∙ air_put n w actors out d old has is
+
+-- an event that is refused
+pub refusal_does : (d : Done) (s : Standing) (air : AirView) (before after : List ℕ) (why : Happening) → d ≡ refused (world_in s air) why → IsSound (scene_of s air before) → after ≡ before ++ happened_text s.names (why ∷ [])
+    → Does d (scene_of s air before) (scene_of s air after)
+refusal_does d s air before after why is sound told = record {
+  world = sym (ap (λ (x : Done). x.world) is);
+  told = told ∙ sym (ap (λ (x : Done). before ++ happened_text x.world.names x.happened) is);
+  sent = same_air air (frames_in d.world) (sound.held ∙ ap (λ (x : Done). frames_in x.world) (sym is));
+  room = sound.room;
+}
 
 -- ---- a frame that is lost
 
@@ -248,12 +263,9 @@ pub lost_not : (line k : ℕ) (w : World) → is_frame k w ≡ false → lost li
 unfolding lost
 lost_not line k w there = ap (λ b. cond b (quiet (lost_at (k - 1) w)) (refused w (NoSuchFrame line))) there
 
-lost_there : (line k : ℕ) (w : World) → is_frame k w ≡ true → lost line k w ≡ quiet (lost_at (k - 1) w)
+pub lost_there : (line k : ℕ) (w : World) → is_frame k w ≡ true → lost line k w ≡ quiet (lost_at (k - 1) w)
 unfolding lost
 lost_there line k w there = ap (λ b. cond b (quiet (lost_at (k - 1) w)) (refused w (NoSuchFrame line))) there
-
-pub lost_quiet : (line k : ℕ) (w : World) → is_frame k w ≡ true → (lost line k w).happened ≡ []
-lost_quiet line k w there = ap (λ (d : Done). d.happened) (lost_there line k w there)
 
 -- the flights then
 pub lost_world : (line k : ℕ) (w : World) (flights : List Flight) (f : Flight) → is_frame k w ≡ true → slice_get w.flights (k - 1) ≡ Some f

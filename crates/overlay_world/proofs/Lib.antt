@@ -2,6 +2,7 @@ pub mod Folds
 pub mod Nodes
 pub mod Indexes
 pub mod Airs
+pub mod Lines
 pub mod Bytes
 pub mod Sent
 pub mod Frames
@@ -11,3 +12,4 @@ pub mod Heard
 pub mod Drained
 pub mod Told
 pub mod Stopping
+pub mod Goings

@@ -1,5 +1,5 @@
 -- Worlds whose frames lie in an air.
-use Rattle.std.proofs.Common.{◌≡◌, ℕ, zero, suc, ◌<◌, ◌≤◌, List, [], ◌∷◌, ◌++◌, true, false, cond, not, length, map, refl, sym, ap, subst, ◌∙◌, arith}
+use Rattle.std.proofs.Common.{◌≡◌, ℕ, zero, suc, ◌<◌, List, [], ◌∷◌, ◌++◌, true, false, cond, not, length, map, refl, ap, ◌∙◌, arith}
 use Rattle.std.specs.Prelude.{Some, ◌==◌, ◌||◌, nat_lt, position, slice_get, slice_set}
 use Rattle.std.proofs.lemmas.Option.{slice_get_within}
 use Rattle.reload_base.specs.declared.air.AirFrame.{AirFrame}
@@ -8,10 +8,9 @@ use Rattle.request_words.specs.declared.node.DeclaredNode.{DeclaredNode}
 use Rattle.node_model.specs.Links.{Sent}
 use Rattle.run_model.specs.declared.flight.Flight.{Flight}
 use Rattle.run_model.specs.declared.flight.Fate.{Fate}
-use Rattle.run_model.specs.declared.flight.Fate.TheVariants.{Waiting, Lost}
-use Rattle.run_model.specs.Worlds.{World, flight_of}
+use Rattle.run_model.specs.declared.flight.Fate.TheVariants.{Lost}
+use Rattle.run_model.specs.Worlds.{flight_of}
 use Rattle.run_model.specs.Moves.{is_waiting, is_frame}
-use Rattle.run_model.specs.Stops.{air_frame, frames_in}
 use Rattle.frames_in_flight.specs.Flying.{waits, flight_in, no_frame, flying}
 use Rattle.frames_in_flight.proofs.Flying.{as_many, at_place, with_another, with_more, flying_count, lowest_waits}
 use Rattle.overlay_world.specs.Standings.{Standing, world_in, IsHeld}

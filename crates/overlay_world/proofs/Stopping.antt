@@ -59,7 +59,8 @@ full_in air w b h =
     let over = ap (λ (f : AirFrame). length f.bytes) frame.2 in
     ((k, front), h.3, (k, frame.0, frame.1, bytes, h.4, omega (arith, h.5, over)))
 
-stops_of : (words : SignerWords) (line : ℕ) (move : Move) (w : World) (old new : AirView) (e : StepFault)
+-- what stops the parts of an event stops it
+pub stops_of : (words : SignerWords) (line : ℕ) (move : Move) (w : World) (old new : AirView) (e : StepFault)
     → Halts (frames_in (moved words line move w).world) (IsNodeFull words move w) old new e → Stops words line move w old new e
 stops_of words line move w old new LinkFault h = (front_in new (moved words line move w).world h.0, h.1)
 stops_of words line move w old new (AirFull b) h =
@@ -67,12 +68,6 @@ stops_of words line move w old new (AirFull b) h =
     (full.0, h.1, full.1, full.2)
 stops_of words line move w old new (NodeFull n) h = (front_in new (moved words line move w).world h.0, h.1, h.2)
 stops_of words line move w old new NoMemory h = (front_in new (moved words line move w).world h.0, h.1)
-
--- what stops the parts of an event stops it
-pub stops : {X : Type 0} (words : SignerWords) (line : ℕ) (move : Move) (w : World) (old new : AirView) (r : Result X StepFault)
-    → IfErr r (Halts (frames_in (moved words line move w).world) (IsNodeFull words move w) old new) → IfErr r (Stops words line move w old new)
-stops words line move w old new r h =
-    IfErr-weaker r (Halts (frames_in (moved words line move w).world) (IsNodeFull words move w) old new) (Stops words line move w old new) (λ e. stops_of words line move w old new e) h
 
 -- ---- an event that sends nothing
 

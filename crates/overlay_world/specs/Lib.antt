@@ -7,3 +7,4 @@ pub mod Unread
 pub mod Sendings
 pub mod Steps
 pub mod Stopped
+pub mod Parts

@@ -1,17 +1,17 @@
 //! Clients that are told to ask something.
 
-ghost use Rattle.std.specs.Prelude.{◌≡◌, ◌≤◌, IfOk, IfErr, OnOk};
-ghost use Rattle.reload_base.specs.Outside.{AirView, size_of};
+ghost use Rattle.std.specs.Prelude.{◌≡◌};
+ghost use Rattle.reload_base.specs.Outside.{AirView};
 ghost use Rattle.node_messages.specs.Signed.{words_of};
 ghost use Rattle.node_model.specs.Nodes.{Commanded};
-ghost use Rattle.run_model.specs.declared.limits.TheConstants.{MAX_AIR};
 ghost use Rattle.run_model.specs.declared.moves.Move.TheVariants as events;
 ghost use Rattle.run_model.specs.Worlds as worlds;
 ghost use Rattle.run_model.specs.Moves as moves;
-ghost use Rattle.run_model.specs.Stops.{frames_in, IsNodeFull};
-ghost use Rattle.overlay_world.specs.Standings.{world_in, IsHeld};
-ghost use Rattle.overlay_world.specs.Sendings.{Halts, IsHeavy};
+ghost use Rattle.run_model.specs.Stops.{IsNodeFull};
+ghost use Rattle.overlay_world.specs.Standings.{world_in};
+ghost use Rattle.overlay_world.specs.Sendings.{IsHeavy};
 ghost use Rattle.overlay_world.specs.Steps.{asked_by};
+ghost use Rattle.overlay_world.specs.Parts.{scene_of, world_of, IsSound, Goes};
 
 use crate::acting::{act, is_asked, is_busy};
 use crate::fault::StepFault;
@@ -19,7 +19,7 @@ use crate::refusing::refused;
 use crate::sending::put_out;
 use crate::world::World;
 use node_model::{Command, Input};
-use reload_base::{Air, List};
+use reload_base::{Air, Bytes};
 use reload_ids::NodeId;
 use run_model::Happening;
 use security_block::Signer;
@@ -50,34 +50,20 @@ impl World {
         command: Command,
         air: &mut A,
         signer: &G,
-    ) -> Result<List<Happening>, StepFault>
-        requires air { IsHeld self.old (A.view air.old) }
-        requires room { size_of (A.view air.old).sent ≤ MAX_AIR }
-        ensures world { let words = words_of G.certificate_of G.signature_of G.about_of G.verifies
-            signer.now in let w = world_in self.old (A.view air.old)
-            in OnOk result (world_in self.new (A.view air.new)
-            ≡ (worlds.handled words number (Commanded command) w).world) }
-        ensures happened { let words = words_of G.certificate_of G.signature_of G.about_of
-            G.verifies signer.now in let w = world_in self.old (A.view air.old)
-            in IfOk result (λ all. all
-            ≡ (worlds.handled words number (Commanded command) w).happened) }
-        ensures air { let words = words_of G.certificate_of G.signature_of G.about_of G.verifies
-            signer.now in let w = world_in self.old (A.view air.old)
-            in OnOk result (A.view air.new ≡ record (A.view air.old) {
-              sent = frames_in (worlds.handled words number (Commanded command) w).world;
-            }) }
-        ensures room { OnOk result (size_of (A.view air.new).sent ≤ MAX_AIR) }
-        ensures stopped { let words = words_of G.certificate_of G.signature_of G.about_of G.verifies
-            signer.now in let w = world_in self.old (A.view air.old)
-            in IfErr result (Halts
-            (frames_in (worlds.handled words number (Commanded command) w).world)
-            (IsHeavy number w) (A.view air.old) (A.view air.new)) }
+        out: &mut Bytes,
+    ) -> Result<(), StepFault>
+        requires sound { IsSound (scene_of self.old (A.view air.old) out.old) }
+        ensures { let words = words_of G.certificate_of G.signature_of G.about_of G.verifies
+            signer.now
+            in let before = scene_of self.old (A.view air.old) out.old
+            in Goes (worlds.handled words number (Commanded command) (world_of before))
+            (IsHeavy number (world_of before)) before
+            (scene_of self.new (A.view air.new) out.new) result }
     {
-        let mut happened = List::new(alloc);
         let input = Input::Command(command);
         let outputs = act(alloc, &mut self.actors, number, self.clock, input, signer)?;
         let Some(outputs) = outputs else {
-            return Ok(happened);
+            return Ok(());
         };
         put_out(
             alloc,
@@ -86,9 +72,8 @@ impl World {
             &mut self.fates,
             number,
             outputs,
-            &mut happened,
-        )?;
-        Ok(happened)
+            out,
+        )
     }
 
     /// The Node-ID of the peer that a client asks, or why the event at a line is refused.
@@ -120,33 +105,19 @@ impl World {
         command: Command,
         air: &mut A,
         signer: &G,
-    ) -> Result<List<Happening>, StepFault>
-        requires air { IsHeld self.old (A.view air.old) }
-        requires room { size_of (A.view air.old).sent ≤ MAX_AIR }
-        ensures world { let words = words_of G.certificate_of G.signature_of G.about_of G.verifies
-            signer.now in let w = world_in self.old (A.view air.old)
-            in OnOk result (world_in self.new (A.view air.new)
-            ≡ (moves.told words line client peer (moves.aimed command) w).world) }
-        ensures happened { let words = words_of G.certificate_of G.signature_of G.about_of
-            G.verifies signer.now in let w = world_in self.old (A.view air.old)
-            in IfOk result (λ all. all
-            ≡ (moves.told words line client peer (moves.aimed command) w).happened) }
-        ensures air { let words = words_of G.certificate_of G.signature_of G.about_of G.verifies
-            signer.now in let w = world_in self.old (A.view air.old)
-            in OnOk result (A.view air.new ≡ record (A.view air.old) {
-              sent = frames_in (moves.told words line client peer (moves.aimed command) w).world;
-            }) }
-        ensures room { OnOk result (size_of (A.view air.new).sent ≤ MAX_AIR) }
-        ensures stopped { let words = words_of G.certificate_of G.signature_of G.about_of G.verifies
-            signer.now in let w = world_in self.old (A.view air.old)
-            in IfErr result (Halts
-            (frames_in (moves.told words line client peer (moves.aimed command) w).world)
-            (IsNodeFull words (events.Ask client peer command) w)
-            (A.view air.old) (A.view air.new)) }
+        out: &mut Bytes,
+    ) -> Result<(), StepFault>
+        requires sound { IsSound (scene_of self.old (A.view air.old) out.old) }
+        ensures { let words = words_of G.certificate_of G.signature_of G.about_of G.verifies
+            signer.now
+            in let before = scene_of self.old (A.view air.old) out.old
+            in Goes (moves.told words line client peer (moves.aimed command) (world_of before))
+            (IsNodeFull words (events.Ask client peer command) (world_of before)) before
+            (scene_of self.new (A.view air.new) out.new) result }
     {
         match self.asked_by(line, client, peer) {
-            Ok(id) => self.command(alloc, client, aimed(command, id), air, signer),
-            Err(why) => refused(alloc, why),
+            Ok(id) => self.command(alloc, client, aimed(command, id), air, signer, out),
+            Err(why) => refused(out, &self.names, why),
         }
     }
 }

@@ -1,14 +1,12 @@
 //! Frames that come to their nodes.
 
-ghost use Rattle.std.specs.Prelude.{◌≡◌, ◌≤◌, ◌==◌, ◌||◌, ◌++◌, not, nat_lt, length, Some, slice_get, IfOk, IfErr, OnOk};
-ghost use Rattle.reload_base.specs.Outside.{size_of};
+ghost use Rattle.std.specs.Prelude.{◌≡◌, ◌==◌, ◌||◌, not, nat_lt, length, Some, slice_get};
 ghost use Rattle.node_messages.specs.Signed.{words_of};
-ghost use Rattle.run_model.specs.declared.limits.TheConstants.{MAX_AIR};
 ghost use Rattle.run_model.specs.declared.moves.Move.TheVariants as events;
 ghost use Rattle.run_model.specs.Moves as moves;
-ghost use Rattle.run_model.specs.Stops.{frames_in, IsNodeFull};
-ghost use Rattle.overlay_world.specs.Standings.{world_in, IsHeld};
-ghost use Rattle.overlay_world.specs.Sendings.{Halts, IsFullAt};
+ghost use Rattle.run_model.specs.Stops.{IsNodeFull};
+ghost use Rattle.overlay_world.specs.Sendings.{IsFullAt};
+ghost use Rattle.overlay_world.specs.Parts.{scene_of, world_of, IsSound, Goes};
 
 use crate::acting::{act, is_hearing};
 use crate::fault::StepFault;
@@ -17,7 +15,7 @@ use crate::sending::put_out;
 use crate::world::World;
 use frames_in_flight::frame_at;
 use node_model::Input;
-use reload_base::{Air, AirFrame, List};
+use reload_base::{Air, AirFrame, Bytes};
 use run_model::Happening;
 use security_block::Signer;
 use std::alloc::Global;
@@ -39,29 +37,16 @@ impl World {
         frame: &AirFrame,
         air: &mut A,
         signer: &G,
-        happened: &mut List<Happening>,
+        out: &mut Bytes,
     ) -> Result<(), StepFault>
         requires there { slice_get (A.view air.old).sent at ≡ Some frame.now }
-        requires air { IsHeld self.old (A.view air.old) }
-        requires room { size_of (A.view air.old).sent ≤ MAX_AIR }
-        ensures world { let words = words_of G.certificate_of G.signature_of G.about_of G.verifies
-            signer.now in let w = world_in self.old (A.view air.old)
-            in OnOk result (world_in self.new (A.view air.new)
-            ≡ (moves.flown_at words at w).world) }
-        ensures happened { let words = words_of G.certificate_of G.signature_of G.about_of
-            G.verifies signer.now in let w = world_in self.old (A.view air.old)
-            in OnOk result (happened.new
-            ≡ happened.old ++ (moves.flown_at words at w).happened) }
-        ensures air { let words = words_of G.certificate_of G.signature_of G.about_of G.verifies
-            signer.now in let w = world_in self.old (A.view air.old)
-            in OnOk result (A.view air.new ≡ record (A.view air.old) {
-              sent = frames_in (moves.flown_at words at w).world;
-            }) }
-        ensures room { OnOk result (size_of (A.view air.new).sent ≤ MAX_AIR) }
-        ensures stopped { let words = words_of G.certificate_of G.signature_of G.about_of G.verifies
-            signer.now in let w = world_in self.old (A.view air.old)
-            in IfErr result (Halts (frames_in (moves.flown_at words at w).world)
-            (IsFullAt at w) (A.view air.old) (A.view air.new)) }
+        requires sound { IsSound (scene_of self.old (A.view air.old) out.old) }
+        ensures { let words = words_of G.certificate_of G.signature_of G.about_of G.verifies
+            signer.now
+            in let before = scene_of self.old (A.view air.old) out.old
+            in Goes (moves.flown_at words at (world_of before))
+            (IsFullAt at (world_of before)) before
+            (scene_of self.new (A.view air.new) out.new) result }
     {
         if !is_hearing(&self.actors, frame.to) {
             self.fates.lost(at);
@@ -86,7 +71,7 @@ impl World {
             &mut self.fates,
             frame.to,
             outputs,
-            happened,
+            out,
         )
     }
 
@@ -97,34 +82,21 @@ impl World {
         at: usize,
         air: &mut A,
         signer: &G,
-        happened: &mut List<Happening>,
+        out: &mut Bytes,
     ) -> Result<(), StepFault>
-        requires air { IsHeld self.old (A.view air.old) }
-        requires room { size_of (A.view air.old).sent ≤ MAX_AIR }
-        ensures world { let words = words_of G.certificate_of G.signature_of G.about_of G.verifies
-            signer.now in let w = world_in self.old (A.view air.old)
-            in OnOk result (world_in self.new (A.view air.new)
-            ≡ (moves.flown_at words at w).world) }
-        ensures happened { let words = words_of G.certificate_of G.signature_of G.about_of
-            G.verifies signer.now in let w = world_in self.old (A.view air.old)
-            in OnOk result (happened.new
-            ≡ happened.old ++ (moves.flown_at words at w).happened) }
-        ensures air { let words = words_of G.certificate_of G.signature_of G.about_of G.verifies
-            signer.now in let w = world_in self.old (A.view air.old)
-            in OnOk result (A.view air.new ≡ record (A.view air.old) {
-              sent = frames_in (moves.flown_at words at w).world;
-            }) }
-        ensures room { OnOk result (size_of (A.view air.new).sent ≤ MAX_AIR) }
-        ensures stopped { let words = words_of G.certificate_of G.signature_of G.about_of G.verifies
-            signer.now in let w = world_in self.old (A.view air.old)
-            in IfErr result (Halts (frames_in (moves.flown_at words at w).world)
-            (IsFullAt at w) (A.view air.old) (A.view air.new)) }
+        requires sound { IsSound (scene_of self.old (A.view air.old) out.old) }
+        ensures { let words = words_of G.certificate_of G.signature_of G.about_of G.verifies
+            signer.now
+            in let before = scene_of self.old (A.view air.old) out.old
+            in Goes (moves.flown_at words at (world_of before))
+            (IsFullAt at (world_of before)) before
+            (scene_of self.new (A.view air.new) out.new) result }
     {
         if self.fates.count() <= at {
             return Ok(());
         }
         let frame = frame_at(alloc, air, at)?;
-        self.hear(alloc, at, &frame, air, signer, happened)
+        self.hear(alloc, at, &frame, air, signer, out)
     }
 
     /// Frame K is delivered, whatever became of it before.
@@ -135,32 +107,19 @@ impl World {
         k: u64,
         air: &mut A,
         signer: &G,
-    ) -> Result<List<Happening>, StepFault>
-        requires air { IsHeld self.old (A.view air.old) }
-        requires room { size_of (A.view air.old).sent ≤ MAX_AIR }
-        ensures world { let words = words_of G.certificate_of G.signature_of G.about_of G.verifies
-            signer.now in let w = world_in self.old (A.view air.old)
-            in OnOk result (world_in self.new (A.view air.new)
-            ≡ (moves.delivered words line k w).world) }
-        ensures happened { let words = words_of G.certificate_of G.signature_of G.about_of
-            G.verifies signer.now in let w = world_in self.old (A.view air.old)
-            in IfOk result (λ all. all ≡ (moves.delivered words line k w).happened) }
-        ensures air { let words = words_of G.certificate_of G.signature_of G.about_of G.verifies
-            signer.now in let w = world_in self.old (A.view air.old)
-            in OnOk result (A.view air.new ≡ record (A.view air.old) {
-              sent = frames_in (moves.delivered words line k w).world;
-            }) }
-        ensures room { OnOk result (size_of (A.view air.new).sent ≤ MAX_AIR) }
-        ensures stopped { let words = words_of G.certificate_of G.signature_of G.about_of G.verifies
-            signer.now in let w = world_in self.old (A.view air.old)
-            in IfErr result (Halts (frames_in (moves.delivered words line k w).world)
-            (IsNodeFull words (events.Deliver k) w) (A.view air.old) (A.view air.new)) }
+        out: &mut Bytes,
+    ) -> Result<(), StepFault>
+        requires sound { IsSound (scene_of self.old (A.view air.old) out.old) }
+        ensures { let words = words_of G.certificate_of G.signature_of G.about_of G.verifies
+            signer.now
+            in let before = scene_of self.old (A.view air.old) out.old
+            in Goes (moves.delivered words line k (world_of before))
+            (IsNodeFull words (events.Deliver k) (world_of before)) before
+            (scene_of self.new (A.view air.new) out.new) result }
     {
         if !self.was_sent(k) {
-            return refused(alloc, Happening::NoSuchFrame { line });
+            return refused(out, &self.names, Happening::NoSuchFrame { line });
         }
-        let mut happened = List::new(alloc);
-        self.fly(alloc, (k - 1) as usize, air, signer, &mut happened)?;
-        Ok(happened)
+        self.fly(alloc, (k - 1) as usize, air, signer, out)
     }
 }

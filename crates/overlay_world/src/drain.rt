@@ -1,20 +1,16 @@
 //! Frames that are delivered one after the other.
 
-ghost use Rattle.std.specs.Prelude.{◌≡◌, ◌≤◌, position, IfOk, IfErr, OnOk};
-ghost use Rattle.reload_base.specs.Outside.{size_of};
+ghost use Rattle.std.specs.Prelude.{◌≡◌, position};
 ghost use Rattle.node_messages.specs.Signed.{words_of};
-ghost use Rattle.run_model.specs.declared.limits.TheConstants.{MAX_AIR};
 ghost use Rattle.run_model.specs.declared.moves.Move.TheVariants as events;
 ghost use Rattle.run_model.specs.Moves as moves;
-ghost use Rattle.run_model.specs.Stops.{frames_in, IsNodeFull};
+ghost use Rattle.run_model.specs.Stops.{IsNodeFull};
 ghost use Rattle.frames_in_flight.specs.Flying.{waits};
-ghost use Rattle.overlay_world.specs.Standings.{world_in, IsHeld};
-ghost use Rattle.overlay_world.specs.Sendings.{Halts};
+ghost use Rattle.overlay_world.specs.Parts.{scene_of, world_of, IsSound, Goes};
 
 use crate::fault::StepFault;
 use crate::world::World;
-use reload_base::{Air, List};
-use run_model::Happening;
+use reload_base::{Air, Bytes};
 use security_block::Signer;
 use std::alloc::Global;
 
@@ -34,34 +30,22 @@ impl World {
         n: u64,
         air: &mut A,
         signer: &G,
-    ) -> Result<List<Happening>, StepFault>
-        requires air { IsHeld self.old (A.view air.old) }
-        requires room { size_of (A.view air.old).sent ≤ MAX_AIR }
-        ensures world { let words = words_of G.certificate_of G.signature_of G.about_of G.verifies
-            signer.now in let w = world_in self.old (A.view air.old)
-            in OnOk result (world_in self.new (A.view air.new)
-            ≡ (moves.drained words n w).world) }
-        ensures happened { let words = words_of G.certificate_of G.signature_of G.about_of
-            G.verifies signer.now in let w = world_in self.old (A.view air.old)
-            in IfOk result (λ all. all ≡ (moves.drained words n w).happened) }
-        ensures air { let words = words_of G.certificate_of G.signature_of G.about_of G.verifies
-            signer.now in let w = world_in self.old (A.view air.old)
-            in OnOk result (A.view air.new ≡ record (A.view air.old) {
-              sent = frames_in (moves.drained words n w).world;
-            }) }
-        ensures room { OnOk result (size_of (A.view air.new).sent ≤ MAX_AIR) }
-        ensures stopped { let words = words_of G.certificate_of G.signature_of G.about_of G.verifies
-            signer.now in let w = world_in self.old (A.view air.old)
-            in IfErr result (Halts (frames_in (moves.drained words n w).world)
-            (IsNodeFull words (events.Drain n) w) (A.view air.old) (A.view air.new)) }
+        out: &mut Bytes,
+    ) -> Result<(), StepFault>
+        requires sound { IsSound (scene_of self.old (A.view air.old) out.old) }
+        ensures { let words = words_of G.certificate_of G.signature_of G.about_of G.verifies
+            signer.now
+            in let before = scene_of self.old (A.view air.old) out.old
+            in Goes (moves.drained words n (world_of before))
+            (IsNodeFull words (events.Drain n) (world_of before)) before
+            (scene_of self.new (A.view air.new) out.new) result }
     {
-        let mut happened = List::new(alloc);
         'deliveries: for _ in 0..n {
             let Some(at) = self.lowest() else {
-                return Ok(happened);
+                return Ok(());
             };
-            self.fly(alloc, at, air, signer, &mut happened)?;
+            self.fly(alloc, at, air, signer, out)?;
         }
-        Ok(happened)
+        Ok(())
     }
 }

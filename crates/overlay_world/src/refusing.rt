@@ -1,18 +1,20 @@
 //! Events that are refused.
 
-ghost use Rattle.std.specs.Prelude.{◌≡◌, ◌∷◌, [], IfOk, IfErr};
+ghost use Rattle.std.specs.Prelude.{◌≡◌, ◌∷◌, ◌++◌, [], IfErr, OnOk};
+ghost use Rattle.run_text.specs.Lines.{happened_text};
 
 use crate::fault::StepFault;
-use reload_base::List;
+use crate::names::Names;
+use reload_base::Bytes;
 use run_model::Happening;
-use std::alloc::Global;
+use run_text::put_happening;
 
-/// An event is refused: nothing else happens.
-pub(crate) fn refused(alloc: Global, why: Happening) -> Result<List<Happening>, StepFault>
-    ensures happened { IfOk result (λ all. all ≡ why ∷ []) }
+/// An event is refused: its line is appended, and nothing else happens.
+#[tactic(auto, unfolding(run_text::specs::Lines::happened_text))]
+pub(crate) fn refused(out: &mut Bytes, names: &Names, why: Happening) -> Result<(), StepFault>
+    ensures told { OnOk result (out.new ≡ out.old ++ happened_text names.now (why ∷ [])) }
     ensures err { IfErr result (λ e. e ≡ StepFault.NoMemory) }
 {
-    let mut all = List::new(alloc);
-    all.push(why)?;
-    Ok(all)
+    put_happening(out, names.as_slice(), &why)?;
+    Ok(())
 }

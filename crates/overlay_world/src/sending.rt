@@ -6,6 +6,7 @@ ghost use Rattle.run_model.specs.declared.happening.Happening.TheVariants.{Tells
 ghost use Rattle.run_model.specs.declared.limits.TheConstants.{MAX_AIR};
 ghost use Rattle.run_model.specs.Worlds.{flight_of};
 ghost use Rattle.run_model.specs.Stops.{air_frame};
+ghost use Rattle.run_text.specs.Lines.{happened_text};
 ghost use Rattle.overlay_world.specs.Sendings.{sent_by, waiting_for, HasBytes, with_frame, with_frames, IsUnsent, Halts, IsNone};
 
 use crate::fault::StepFault;
@@ -15,6 +16,7 @@ use node_model::{Notice, Outputs};
 use reload_base::{Air, Bytes, List, NoMemory, Sent};
 use reload_ids::NodeId;
 use run_model::{Happening, MAX_AIR};
+use run_text::put_happening;
 use std::alloc::Global;
 
 /// Sends bytes as one frame, where they fit the air.
@@ -92,17 +94,20 @@ fn send_all<A: Air>(
     Ok(())
 }
 
-/// What the node with a number tells happens.
-fn tell(number: u32, notices: List<Notice>, happened: &mut List<Happening>) -> Result<(), NoMemory>
-    ensures { OnOk result (happened.new ≡ happened.old ++ map (Tells number) notices) }
+/// Appends the lines of what the node with a number tells.
+#[tactic(auto, unfolding(run_text::specs::Lines::happened_text))]
+fn tell(out: &mut Bytes, names: &Names, number: u32, notices: List<Notice>) -> Result<(), NoMemory>
+    ensures { OnOk result (out.new
+        ≡ out.old ++ happened_text names.now (map (Tells number) notices)) }
 {
     for notice in notices.into_vec() {
-        happened.push(Happening::Tells { number, notice })?;
+        put_happening(out, names.as_slice(), &Happening::Tells { number, notice })?;
     }
     Ok(())
 }
 
-/// What the node with a number puts out: its frames are sent and wait, and what it tells happens.
+/// What the node with a number puts out: its frames are sent and wait, and the lines of what it
+/// tells are appended.
 pub(crate) fn put_out<A: Air>(
     alloc: Global,
     air: &mut A,
@@ -110,13 +115,13 @@ pub(crate) fn put_out<A: Air>(
     fates: &mut Fates,
     number: u32,
     outputs: Outputs,
-    happened: &mut List<Happening>,
+    out: &mut Bytes,
 ) -> Result<(), StepFault>
     requires some { All HasBytes outputs.frames }
     requires room { size_of (A.view air.old).sent ≤ MAX_AIR }
     ensures fates { OnOk result (fates.new ≡ fates.old ++ waiting_for outputs.frames) }
-    ensures happened { OnOk result (happened.new
-        ≡ happened.old ++ map (Tells number) outputs.notices) }
+    ensures told { OnOk result (out.new
+        ≡ out.old ++ happened_text names.now (map (Tells number) outputs.notices)) }
     ensures sent { OnOk result (A.view air.new
         ≡ with_frames (A.view air.old) (sent_by names.now number outputs.frames)) }
     ensures room { OnOk result (size_of (A.view air.new).sent ≤ MAX_AIR) }
@@ -126,6 +131,6 @@ pub(crate) fn put_out<A: Air>(
 {
     let Outputs { frames, notices } = outputs;
     send_all(alloc, air, names, fates, number, frames)?;
-    tell(number, notices, happened)?;
+    tell(out, names, number, notices)?;
     Ok(())
 }

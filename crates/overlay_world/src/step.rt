@@ -1,19 +1,15 @@
 //! What an event makes of a world.
 
-ghost use Rattle.std.specs.Prelude.{◌≡◌, ◌+◌, ◌<◌, ◌≤◌, ◌^◌, IfOk, IfErr, OnOk};
-ghost use Rattle.reload_base.specs.Outside.{size_of};
+ghost use Rattle.std.specs.Prelude.{◌≡◌, ◌+◌, ◌<◌, ◌^◌};
 ghost use Rattle.node_messages.specs.Signed.{words_of};
-ghost use Rattle.run_model.specs.declared.limits.TheConstants.{MAX_AIR};
-ghost use Rattle.run_model.specs.Moves.{moved};
-ghost use Rattle.run_model.specs.Stops.{frames_in};
-ghost use Rattle.overlay_world.specs.Standings.{world_in, IsHeld};
+ghost use Rattle.overlay_world.specs.Standings.{world_in};
 ghost use Rattle.overlay_world.specs.Steps.{IsInTime};
-ghost use Rattle.overlay_world.specs.Stopped.{Stops};
+ghost use Rattle.overlay_world.specs.Parts.{scene_of, IsSound, Steps};
 
 use crate::fault::StepFault;
 use crate::world::World;
-use reload_base::{Air, List};
-use run_model::{Happening, Move};
+use reload_base::{Air, Bytes};
+use run_model::Move;
 use security_block::Signer;
 use std::alloc::Global;
 
@@ -26,8 +22,9 @@ impl World {
         self.clock += ms;
     }
 
-    /// An event, at its line in a scenario: what happens. Behind a fault, which is `NoMemory`
-    /// wherever memory is missing, the world is only dropped.
+    /// An event, at its line in a scenario: the world, its air, and the lines of what happens, each
+    /// appended as it happens. Behind a fault, which is `NoMemory` wherever memory is missing, the
+    /// world and the lines are only dropped.
     pub fn step<A: Air, G: Signer>(
         &mut self,
         alloc: Global,
@@ -35,45 +32,29 @@ impl World {
         what: Move,
         air: &mut A,
         signer: &G,
-    ) -> Result<List<Happening>, StepFault>
+        out: &mut Bytes,
+    ) -> Result<(), StepFault>
         requires clock { IsInTime what (world_in self.old (A.view air.old)) }
-        requires air { IsHeld self.old (A.view air.old) }
-        requires room { size_of (A.view air.old).sent ≤ MAX_AIR }
-        // What the world is afterwards.
-        ensures world { let words = words_of G.certificate_of G.signature_of G.about_of G.verifies
-            signer.now in let w = world_in self.old (A.view air.old)
-            in OnOk result (world_in self.new (A.view air.new)
-            ≡ (moved words line what w).world) }
-        // What happened.
-        ensures happened { let words = words_of G.certificate_of G.signature_of G.about_of
-            G.verifies signer.now in let w = world_in self.old (A.view air.old)
-            in IfOk result (λ all. all ≡ (moved words line what w).happened) }
-        // All frames of the world are in the air, and nothing failed.
-        ensures air { let words = words_of G.certificate_of G.signature_of G.about_of G.verifies
-            signer.now in let w = world_in self.old (A.view air.old)
-            in OnOk result (A.view air.new ≡ record (A.view air.old) {
-              sent = frames_in (moved words line what w).world;
-            }) }
-        ensures room { OnOk result (size_of (A.view air.new).sent ≤ MAX_AIR) }
-        // What stopped it, and where.
-        ensures stopped { let words = words_of G.certificate_of G.signature_of G.about_of G.verifies
-            signer.now in let w = world_in self.old (A.view air.old)
-            in IfErr result (Stops words line what w
-            (A.view air.old) (A.view air.new)) }
+        requires sound { IsSound (scene_of self.old (A.view air.old) out.old) }
+        ensures { let words = words_of G.certificate_of G.signature_of G.about_of G.verifies
+            signer.now
+            in Steps words line what
+            (scene_of self.old (A.view air.old) out.old)
+            (scene_of self.new (A.view air.new) out.new) result }
     {
         match what {
             Move::Clock(ms) => {
                 self.go_on(ms);
-                Ok(List::new(alloc))
+                Ok(())
             }
-            Move::Deliver(k) => self.deliver(alloc, line, k, air, signer),
-            Move::Lose(k) => self.lose(alloc, line, k),
-            Move::Drain(n) => self.drain(alloc, n, air, signer),
+            Move::Deliver(k) => self.deliver(alloc, line, k, air, signer, out),
+            Move::Lose(k) => self.lose(line, k, out),
+            Move::Drain(n) => self.drain(alloc, n, air, signer, out),
             Move::Ask {
                 client,
                 peer,
                 command,
-            } => self.ask(alloc, line, client, peer, command, air, signer),
+            } => self.ask(alloc, line, client, peer, command, air, signer, out),
         }
     }
 }

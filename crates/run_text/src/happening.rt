@@ -6,7 +6,7 @@ ghost use Rattle.std.specs.Fmt.{decimal};
 ghost use Rattle.text_words.specs.Codec.{Appended, AppendedSome};
 ghost use Rattle.text_words.specs.Lines.{ended, spaced, spaced_by};
 ghost use Rattle.transcript_text.specs.Words.{counter_text};
-ghost use Rattle.run_text.specs.Lines.{answer_line, ended_by, happened_text, happening_line, no_such_frame, notice_line, refused_line, told_text, unknown_node};
+ghost use Rattle.run_text.specs.Lines.{answer_line, ended_by, happening_line, no_such_frame, notice_line, refused_line, told_text, unknown_node};
 
 use node_model::{Notice, Told};
 use reload_base::{Bytes, NoMemory};
@@ -121,13 +121,9 @@ fn unknown_node() -> &'static [u8]
     b"unknown-node"
 }
 
-// Appends what happens, as a line.
+// Appends what happens, as a line, and where memory is missing a part of it.
 #[tactic(auto, unfolding(crate::specs::Lines::happening_line, crate::specs::Lines::ended_by))]
-fn put_happening(
-    out: &mut Bytes,
-    names: &[DeclaredNode],
-    happening: &Happening,
-) -> Result<(), NoMemory>
+fn put_line(out: &mut Bytes, names: &[DeclaredNode], happening: &Happening) -> Result<(), NoMemory>
     ensures { AppendedSome out.old out.new
         (ended_by (happening_line names.now) happening.now) result }
 {
@@ -139,28 +135,17 @@ fn put_happening(
     }
 }
 
-// Appends the lines of all that happens, and where memory is missing some of them.
-#[tactic(auto, unfolding(crate::specs::Lines::happened_text))]
-fn put_all(out: &mut Bytes, names: &[DeclaredNode], all: &[Happening]) -> Result<(), NoMemory>
-    ensures { AppendedSome out.old out.new (happened_text names.now all.now) result }
-{
-    for happening in all {
-        put_happening(out, names, happening)?;
-    }
-    Ok(())
-}
-
-/// Appends a line for each that happens: `decide P T RES REQUEST -> ANSWER`, `answer H.L ANSWER`,
-/// and `refused L WORD`, where WORD is `no-such-frame`, `unknown-node` or `busy`. Nodes have the
-/// numbers of their names; one without a name is `?`.
-pub fn put_happenings(
+/// Appends a line for what happens: `decide P T RES REQUEST -> ANSWER`, `answer H.L ANSWER`, or
+/// `refused L WORD`, where WORD is `no-such-frame`, `unknown-node` or `busy`. Nodes have the numbers
+/// of their names; one without a name is `?`.
+pub fn put_happening(
     out: &mut Bytes,
     names: &[DeclaredNode],
-    all: &[Happening],
+    happening: &Happening,
 ) -> Result<(), NoMemory>
-    ensures { Appended out.old out.new (happened_text names.now all.now) result }
+    ensures { Appended out.old out.new (ended_by (happening_line names.now) happening.now) result }
 {
     let before = out.len();
-    let appended = put_all(out, names, all);
+    let appended = put_line(out, names, happening);
     all_or_nothing(out, before, appended)
 }

@@ -8,4 +8,4 @@ mod happening;
 
 pub use end::put_end;
 pub use frames::put_frames;
-pub use happening::put_happenings;
+pub use happening::put_happening;

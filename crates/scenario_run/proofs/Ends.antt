@@ -5,8 +5,6 @@ use Rattle.reload_base.specs.Outside.{AirView, HoldBytes, size_of}
 use Rattle.std.specs.List.{AllByRecursion}
 use Rattle.wire_core.specs.Spelling.{AreBytes}
 use Rattle.run_model.specs.declared.flight.Fate.{Fate}
-use Rattle.request_words.specs.declared.node.DeclaredNode.{DeclaredNode}
-use Rattle.run_model.specs.declared.happening.Happening.{Happening}
 use Rattle.run_model.specs.Worlds.{World, Done, bytes_in}
 use Rattle.run_model.specs.Stops.{frames_in}
 use Rattle.frames_in_flight.specs.Flying.{flying}
@@ -36,12 +34,12 @@ flying_hold (x ∷ fates) (f ∷ frames) all = (all.0, flying_hold fates frames 
 pub bytes_hold : (s : Standing) (air : AirView) → HoldBytes air.sent → AreAllBytes (world_in s air)
 bytes_hold s air all = flying_hold s.fates air.sent all
 
--- the lines of an event, by what happened and by the frames of its air
-pub piece_is : (traced : Bool) (w : World) (d : Done) (names : List DeclaredNode) (happened : List Happening) (sent : ℕ) (frames : List AirFrame) → names ≡ d.world.names → happened ≡ d.happened → sent ≡ length w.flights → frames ≡ frames_in d.world
-    → happened_text names happened ++ traced_text traced sent frames ≡ event_text traced w d
+-- the lines of an event: those of what happened, and behind them those of the frames of its air
+pub piece_is : (traced : Bool) (w : World) (d : Done) (none told piece : List ℕ) (sent : ℕ) (frames : List AirFrame) → none ≡ [] → told ≡ none ++ happened_text d.world.names d.happened
+    → piece ≡ told ++ traced_text traced sent frames → sent ≡ length w.flights → frames ≡ frames_in d.world → piece ≡ event_text traced w d
 unfolding event_text
-piece_is traced w d names happened sent frames named told count is =
-    ap (λ (l : List DeclaredNode). happened_text l happened ++ traced_text traced sent frames) named
-    ∙ ap (λ (l : List Happening). happened_text d.world.names l ++ traced_text traced sent frames) told
-    ∙ ap (λ n. happened_text d.world.names d.happened ++ traced_text traced n frames) count
-    ∙ ap (λ (l : List AirFrame). happened_text d.world.names d.happened ++ traced_text traced (length w.flights) l) is
+piece_is traced w d none told piece sent frames empty said flown count is =
+    let lines = happened_text d.world.names d.happened in
+    flown ∙ ap (λ l. l ++ traced_text traced sent frames) (said ∙ ap (λ l. l ++ lines) empty)
+    ∙ ap (λ n. lines ++ traced_text traced n frames) count
+    ∙ ap (λ (l : List AirFrame). lines ++ traced_text traced (length w.flights) l) is

@@ -7,22 +7,18 @@ ghost use Rattle.node_messages.specs.Signed.{words_of};
 ghost use Rattle.run_model.specs.declared.limits.TheConstants.{MAX_AIR};
 ghost use Rattle.run_model.specs.Worlds.{bytes_in};
 ghost use Rattle.run_model.specs.Moves.{moved};
-ghost use Rattle.frames_in_flight.specs.Reading.{IsUnread};
 ghost use Rattle.overlay_world.specs.Standings.{world_in, IsHeld};
 ghost use Rattle.overlay_world.specs.Steps.{IsInTime};
 ghost use Rattle.scenario_moves.specs.Moves.{move_of};
 ghost use Rattle.scenario_text.specs.Echo.{echo};
-ghost use Rattle.run_text.specs.Lines.{happened_text};
 ghost use Rattle.scenario_run.specs.Runs.{event_of};
 ghost use Rattle.scenario_run.specs.Texts.{traced_text, event_text, end_text};
 ghost use Rattle.scenario_run.specs.Outcomes.{Sends};
 ghost use Rattle.scenario_run.specs.Broken.{EventStops, IsUntold};
 
-use frames_in_flight::FrameError;
 use overlay_world::{StepFault, World};
 use reload_base::{Air, Bytes, Sink, WriteError, write_all};
-use run_model::Happening;
-use run_text::{put_end, put_frames, put_happenings};
+use run_text::{put_end, put_frames};
 use scenario_moves::move_of;
 use scenario_text::{Event, Scenario, put_echo};
 use security_block::Signer;
@@ -48,36 +44,16 @@ fn put_traced<A: Air>(
     traced: bool,
     air: &mut A,
     from: usize,
-) -> Result<(), FrameError>
+) -> Result<(), StepFault>
     ensures text { OnOk result (out.new
         ≡ out.old ++ traced_text traced from (A.view air.old).sent) }
     ensures same { OnOk result (A.view air.new ≡ A.view air.old) }
-    ensures unread { IfErr result (IsUnread (A.view air.old) (A.view air.new)) }
-{
-    if !traced {
-        return Ok(());
-    }
-    put_frames(alloc, out, air, from)
-}
-
-/// The lines of what happened, and of the frames behind the first `from`, if frames are traced.
-fn lines_of<A: Air>(
-    alloc: Global,
-    traced: bool,
-    world: &World,
-    happened: &[Happening],
-    air: &mut A,
-    from: usize,
-) -> Result<Bytes, StepFault>
-    ensures piece { IfOk result (λ piece. piece ≡ happened_text world.now.names happened.now
-        ++ traced_text traced from (A.view air.old).sent) }
-    ensures same { OnOk result (A.view air.new ≡ A.view air.old) }
     ensures untold { IfErr result (IsUntold (A.view air.old) (A.view air.new)) }
 {
-    let mut piece = Bytes::new(alloc);
-    put_happenings(&mut piece, world.names(), happened)?;
-    put_traced(alloc, &mut piece, traced, air, from)?;
-    Ok(piece)
+    if traced {
+        put_frames(alloc, out, air, from)?;
+    }
+    Ok(())
 }
 
 /// Moves the world by an event: the lines of what happens, and of the frames that are sent, if
@@ -114,8 +90,10 @@ pub(crate) fn event_piece<A: Air, G: Signer>(
 {
     let what = move_of(alloc, &event.what)?;
     let sent = world.sent();
-    let happened = world.step(alloc, event.line, what, air, signer)?;
-    lines_of(alloc, traced, world, happened.as_slice(), air, sent)
+    let mut piece = Bytes::new(alloc);
+    world.step(alloc, event.line, what, air, signer, &mut piece)?;
+    put_traced(alloc, &mut piece, traced, air, sent)?;
+    Ok(piece)
 }
 
 /// How many bytes the frames of a world have together, which an air has.

@@ -94,8 +94,7 @@ fn answers_that_clients_take(rt: HostRuntime) -> Result<(), Fail> {
         code: 0,
         counters: List::new(alloc),
     }))?;
-    let mut out = Bytes::new(alloc);
-    put_happenings(&mut out, &[], all.as_slice())?;
+    let out = lines_of(alloc, &[], all.as_slice())?;
     let lines = b"answer 4.2 ok 256:1
 answer 4.2 ok
 answer 4.2 kind=256/1 -:5000:60:+6869
@@ -107,6 +106,15 @@ answer 4.2 error 0
 ";
     assert_eq!(rt; out.as_slice(), lines.as_slice());
     Ok(())
+}
+
+// The lines of all that happens.
+fn lines_of(alloc: Global, names: &[DeclaredNode], all: &[Happening]) -> Result<Bytes, NoMemory> {
+    let mut out = Bytes::new(alloc);
+    for happening in all {
+        put_happening(&mut out, names, happening)?;
+    }
+    Ok(out)
 }
 
 // Peer 3 decided on a request of the client with this Node-ID, at 500 ms.
@@ -170,8 +178,7 @@ fn decisions_of_peers(rt: HostRuntime) -> Result<(), Fail> {
     all.push(decided(8, fetch(alloc)?, error(alloc, 14)))?;
     all.push(decided(7, join, Answer::Joined))?;
     all.push(decided(0, Asked::Unsigned, error(alloc, 2)))?;
-    let mut out = Bytes::new(alloc);
-    put_happenings(&mut out, names.as_slice(), all.as_slice())?;
+    let out = lines_of(alloc, names.as_slice(), all.as_slice())?;
     let lines = b"decide 3 500 a9993e364706816aba3e25717850c26c fetch 4 4.2 max=0 256/0 \
         -> kind=256/1 -:5000:60:+6869
 decide 3 500 a9993e364706816aba3e25717850c26c fetch ? 4.2 max=0 256/0 -> error 14
@@ -188,8 +195,7 @@ fn refused_events(rt: HostRuntime) -> Result<(), Fail> {
     all.push(Happening::NoSuchFrame { line: 14 })?;
     all.push(Happening::UnknownNode { line: 9 })?;
     all.push(Happening::Busy { line: 69 })?;
-    let mut out = Bytes::new(rt.alloc());
-    put_happenings(&mut out, &[], all.as_slice())?;
+    let out = lines_of(rt.alloc(), &[], all.as_slice())?;
     let lines = b"refused 14 no-such-frame
 refused 9 unknown-node
 refused 69 busy

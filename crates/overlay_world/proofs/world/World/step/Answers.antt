@@ -1,41 +1,40 @@
-use Rattle.std.proofs.Common.{◌+◌, refl, sym, ◌∙◌}
+use Rattle.std.proofs.Common.{◌+◌, refl, sym, subst}
 use Rattle.node_messages.specs.Signed.{words_of}
 use Rattle.run_model.specs.declared.moves.Move.TheVariants.{Deliver, Lose, Drain, Ask}
-use Rattle.run_model.specs.Worlds.{World}
+use Rattle.run_model.specs.Worlds.{World, quiet}
 use Rattle.run_model.specs.Moves.{lost}
-use Rattle.run_model.specs.Stops.{frames_in, IsNodeFull}
-use Rattle.overlay_world.specs.Standings.{world_in}
-use Rattle.overlay_world.proofs.Airs.{same_air, on_ok}
+use Rattle.run_model.specs.Stops.{IsNodeFull}
+use Rattle.overlay_world.specs.Standings.{Standing, world_in}
+use Rattle.overlay_world.specs.Sendings.{IsNone}
+use Rattle.overlay_world.specs.Parts.{scene_of, Does}
 use Rattle.overlay_world.proofs.Frames.{frames_same}
-use Rattle.overlay_world.proofs.Stopping.{stops, stills, frames_after_loss}
+use Rattle.overlay_world.proofs.Flown.{quiet_does}
+use Rattle.overlay_world.proofs.Goings.{goes_wider, steps}
 use Rattle.overlay_world.proofs.world.World.step.Goals as goal
 
-pub returns-in-Clock-clause-air : goal.returns-in-Clock-clause-air
-returns-in-Clock-clause-air g c =
-    let w : World = (world_in c.args.self.now (g.A.Air.view c.args.air.now)) in
-    let next : World = record w { clock = w.clock + c.in-Clock.ms } in
-    rw c.in-Clock.is (same_air (g.A.Air.view c.args.air.now) (frames_in next) (c.requires.air ∙ sym (frames_same w next refl)))
+pub returns-in-Clock : goal.returns-in-Clock
+returns-in-Clock g c =
+    let s = c.args.self.now in
+    let next : Standing = record s { clock = s.clock + c.in-Clock.ms } in
+    let w : World = world_in next (g.A.Air.view c.args.air.now) in
+    rw c.in-Clock.is (subst (λ (n : Standing). Does (quiet w) (scene_of s (g.A.Air.view c.args.air.now) c.args.out.now) (scene_of n (g.A.Air.view c.args.air.now) c.args.out.now)) (sym c.go_on.ensures)
+    (quiet_does (quiet w) s next (g.A.Air.view c.args.air.now) c.args.out.now refl (frames_same (world_in s (g.A.Air.view c.args.air.now)) w refl) c.requires.sound))
 
-pub returns-in-Deliver-clause-stopped : goal.returns-in-Deliver-clause-stopped
-returns-in-Deliver-clause-stopped g c =
-    rw c.in-Deliver.is (stops (words_of g.G.Signer.certificate_of g.G.Signer.signature_of g.G.Signer.about_of g.G.Signer.verifies c.args.signer.now) c.args.line (Deliver c.in-Deliver.k) (world_in c.args.self.now (g.A.Air.view c.args.air.now)) (g.A.Air.view c.args.air.now) (g.A.Air.view c.deliver.new.air) c.deliver.result c.deliver.ensures.stopped)
+pub returns-in-Deliver : goal.returns-in-Deliver
+returns-in-Deliver g c =
+    rw c.in-Deliver.is (steps (words_of g.G.Signer.certificate_of g.G.Signer.signature_of g.G.Signer.about_of g.G.Signer.verifies c.args.signer.now) c.args.line (Deliver c.in-Deliver.k) (scene_of c.args.self.now (g.A.Air.view c.args.air.now) c.args.out.now) (scene_of c.deliver.new.self (g.A.Air.view c.deliver.new.air) c.deliver.new.out) c.deliver.result c.deliver.ensures)
 
-pub returns-in-Lose-clause-air : goal.returns-in-Lose-clause-air
-returns-in-Lose-clause-air g c =
-    let w : World = (world_in c.args.self.now (g.A.Air.view c.args.air.now)) in
-    rw c.in-Lose.is (on_ok c.lose.result (same_air (g.A.Air.view c.args.air.now) (frames_in (lost c.args.line c.in-Lose.k w).world) (c.requires.air ∙ sym (frames_after_loss c.args.line c.in-Lose.k w))))
+pub returns-in-Lose : goal.returns-in-Lose
+returns-in-Lose g c =
+    let after = scene_of c.lose.new.self (g.A.Air.view c.args.air.now) c.lose.new.out in
+    let move = Lose c.in-Lose.k in
+    rw c.in-Lose.is (steps (words_of g.G.Signer.certificate_of g.G.Signer.signature_of g.G.Signer.about_of g.G.Signer.verifies c.args.signer.now) c.args.line move (scene_of c.args.self.now (g.A.Air.view c.args.air.now) c.args.out.now) after c.lose.result
+    (goes_wider (lost c.args.line c.in-Lose.k (world_in c.args.self.now (g.A.Air.view c.args.air.now))) IsNone (IsNodeFull (words_of g.G.Signer.certificate_of g.G.Signer.signature_of g.G.Signer.about_of g.G.Signer.verifies c.args.signer.now) move (world_in c.args.self.now (g.A.Air.view c.args.air.now))) (scene_of c.args.self.now (g.A.Air.view c.args.air.now) c.args.out.now) after c.lose.result (λ n none. absurd none) (c.lose.ensures (g.A.Air.view c.args.air.now) c.requires.sound)))
 
-pub returns-in-Lose-clause-stopped : goal.returns-in-Lose-clause-stopped
-returns-in-Lose-clause-stopped g c =
-    let w : World = (world_in c.args.self.now (g.A.Air.view c.args.air.now)) in
-    let k = c.in-Lose.k in
-    rw c.in-Lose.is (stops (words_of g.G.Signer.certificate_of g.G.Signer.signature_of g.G.Signer.about_of g.G.Signer.verifies c.args.signer.now) c.args.line (Lose k) w (g.A.Air.view c.args.air.now) (g.A.Air.view c.args.air.now) c.lose.result
-    (stills (lost c.args.line k w) (IsNodeFull (words_of g.G.Signer.certificate_of g.G.Signer.signature_of g.G.Signer.about_of g.G.Signer.verifies c.args.signer.now) (Lose k) w) (g.A.Air.view c.args.air.now) c.lose.result (c.requires.air ∙ sym (frames_after_loss c.args.line k w)) c.lose.ensures.err))
+pub returns-in-Drain : goal.returns-in-Drain
+returns-in-Drain g c =
+    rw c.in-Drain.is (steps (words_of g.G.Signer.certificate_of g.G.Signer.signature_of g.G.Signer.about_of g.G.Signer.verifies c.args.signer.now) c.args.line (Drain c.in-Drain.n) (scene_of c.args.self.now (g.A.Air.view c.args.air.now) c.args.out.now) (scene_of c.drain.new.self (g.A.Air.view c.drain.new.air) c.drain.new.out) c.drain.result c.drain.ensures)
 
-pub returns-in-Drain-clause-stopped : goal.returns-in-Drain-clause-stopped
-returns-in-Drain-clause-stopped g c =
-    rw c.in-Drain.is (stops (words_of g.G.Signer.certificate_of g.G.Signer.signature_of g.G.Signer.about_of g.G.Signer.verifies c.args.signer.now) c.args.line (Drain c.in-Drain.n) (world_in c.args.self.now (g.A.Air.view c.args.air.now)) (g.A.Air.view c.args.air.now) (g.A.Air.view c.drain.new.air) c.drain.result c.drain.ensures.stopped)
-
-pub returns-in-Ask-clause-stopped : goal.returns-in-Ask-clause-stopped
-returns-in-Ask-clause-stopped g c =
-    rw c.in-Ask.is (stops (words_of g.G.Signer.certificate_of g.G.Signer.signature_of g.G.Signer.about_of g.G.Signer.verifies c.args.signer.now) c.args.line (Ask c.in-Ask.client c.in-Ask.peer c.in-Ask.command) (world_in c.args.self.now (g.A.Air.view c.args.air.now)) (g.A.Air.view c.args.air.now) (g.A.Air.view c.ask.new.air) c.ask.result c.ask.ensures.stopped)
+pub returns-in-Ask : goal.returns-in-Ask
+returns-in-Ask g c =
+    rw c.in-Ask.is (steps (words_of g.G.Signer.certificate_of g.G.Signer.signature_of g.G.Signer.about_of g.G.Signer.verifies c.args.signer.now) c.args.line (Ask c.in-Ask.client c.in-Ask.peer c.in-Ask.command) (scene_of c.args.self.now (g.A.Air.view c.args.air.now) c.args.out.now) (scene_of c.ask.new.self (g.A.Air.view c.ask.new.air) c.ask.new.out) c.ask.result c.ask.ensures)
