@@ -10,7 +10,7 @@ use crate::run::run_text;
 use crate::status::Status;
 use crate::tell::{tell, too_long_line, usage_line};
 use frame_listing::{Listing, list_stream};
-use reload_base::{Air, MAX_INPUT, ReadError, Sink, Source, WriteError, read_all};
+use reload_base::{Air, Bytes, MAX_INPUT, ReadError, Sink, Source, WriteError, read_all};
 use security_block::Signer;
 use std::alloc::Global;
 
@@ -37,22 +37,22 @@ fn show<K: Sink>(alloc: Global, stream: &[u8], sink: &mut K) -> Result<Status, W
 fn answer<K: Sink, A: Air, G: Signer>(
     alloc: Global,
     form: Form,
-    input: &[u8],
+    input: Bytes,
     sink: &mut K,
     air: &mut A,
     signer: &G,
 ) -> Result<Status, WriteError>
-    requires short { length input.now ≤ MAX_INPUT }
+    requires short { length input ≤ MAX_INPUT }
     requires empty { (A.view air.old).sent ≡ [] }
     ensures { let words = words_of G.certificate_of G.signature_of G.about_of G.verifies
-        signer.now in AnswersInput words form input.now
+        signer.now in AnswersInput words form input
         (record { sink = K.view sink.old; air = A.view air.old })
         (record { sink = K.view sink.new; air = A.view air.new }) result }
 {
     match form {
         Form::Run => run_text(alloc, false, input, sink, air, signer),
         Form::Trace => run_text(alloc, true, input, sink, air, signer),
-        Form::Show => show(alloc, input, sink),
+        Form::Show => show(alloc, input.as_slice(), sink),
     }
 }
 
@@ -97,7 +97,7 @@ pub fn overlay<S: Source, K: Sink, A: Air, G: Signer>(
         return Status::of(tell(usage_line(), Status::Usage, sink));
     };
     match read_all(alloc, source, MAX_INPUT) {
-        Ok(input) => Status::of(answer(alloc, form, input.as_slice(), sink, air, signer)),
+        Ok(input) => Status::of(answer(alloc, form, input, sink, air, signer)),
         Err(ReadError::Failed) => Status::ReadFault,
         Err(ReadError::TooLong) => Status::of(tell(too_long_line(), Status::TooLong, sink)),
         Err(ReadError::NoMemory) => Status::NoMemory,

@@ -9,4 +9,4 @@ returns-in-Show g c =
     let words = words_of g.G.Signer.certificate_of g.G.Signer.signature_of g.G.Signer.about_of g.G.Signer.verifies c.args.signer.now in
     let before : Outlets = record { sink = g.K.Sink.view c.args.sink.now; air = g.A.Air.view c.args.air.now } in
     let after : Outlets = record { sink = g.K.Sink.view c.show.new.sink; air = g.A.Air.view c.args.air.now } in
-    rw c.in-Show.is (listing_told words c.args.input.now before after c.show.result c.show.ensures refl)
+    rw c.in-Show.is (listing_told words c.args.input before after c.show.result (rw c.as_slice.ensures at c.show.ensures) refl)

@@ -22,7 +22,7 @@ returns-in-Ok-clause-ends g c =
     let before : Outside = record { source = g.S.Source.view c.args.source.now; outlets = record { sink = g.K.Sink.view c.args.sink.now; air = g.A.Air.view c.args.air.now } } in
     let after : Outside = record { source = g.S.Source.view c.read_all.new.source; outlets = record { sink = g.K.Sink.view c.answer.new.sink; air = g.A.Air.view c.answer.new.air } } in
     let has = rw c.as_slice.ensures.value at c.in-Some.ensures.some in
-    rw c.of-in-Ok.ensures (ends_input signer c.args.words.now.items before after c.in-Some.form c.in-Ok.input c.answer.result has c.in-Ok.ensures (rw c.as_slice-in-Ok.ensures at c.answer.ensures))
+    rw c.of-in-Ok.ensures (ends_input signer c.args.words.now.items before after c.in-Some.form c.in-Ok.input c.answer.result has c.in-Ok.ensures c.answer.ensures)
 
 pub returns-in-Err-TooLong-clause-ends : goal.returns-in-Err-TooLong-clause-ends
 returns-in-Err-TooLong-clause-ends g c =
@@ -40,4 +40,4 @@ returns-in-Ok-clause-complete g c =
     let before : Outlets = record { sink = g.K.Sink.view c.args.sink.now; air = g.A.Air.view c.args.air.now } in
     let after : Outlets = record { sink = g.K.Sink.view c.answer.new.sink; air = g.A.Air.view c.answer.new.air } in
     let has = rw c.as_slice.ensures.value at c.in-Some.ensures.some in
-    rw c.of-in-Ok.ensures (completes_input signer c.args.words.now.items (g.S.Source.view c.args.source.now) (g.S.Source.view c.read_all.new.source) c.in-Some.form c.in-Ok.input before after c.answer.result has c.in-Ok.ensures (rw c.as_slice-in-Ok.ensures at c.answer.ensures))
+    rw c.of-in-Ok.ensures (completes_input signer c.args.words.now.items (g.S.Source.view c.args.source.now) (g.S.Source.view c.read_all.new.source) c.in-Some.form c.in-Ok.input before after c.answer.result has c.in-Ok.ensures c.answer.ensures)
