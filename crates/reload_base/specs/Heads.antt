@@ -1,16 +1,26 @@
 -- Frames whose bytes lie one behind the other.
-use Rattle.std.specs.Prelude.{ℕ, ◌+◌, ◌<◌, ◌≤◌, List, map, length, take, drop}
+use Rattle.std.specs.Prelude.{ℕ, zero, suc, ◌≡◌, ◌<◌, ◌≤◌, List, [], ◌∷◌, take, drop}
 use Rattle.reload_base.specs.declared.air.AirFrame.{AirFrame}
 use Rattle.reload_base.specs.declared.memory_air.Head.{Head}
 
--- a head's frame, cut from the bytes of all
-abbrev pub frame_at : List ℕ → Head → AirFrame
-frame_at bytes h = record { from = h.from; to = h.to; bytes = take h.len (drop h.start bytes) }
+-- the frames of some heads, cut from the bytes of all; the first one's begin at `start`
+unfoldable pub frames_from : ℕ → List Head → List ℕ → List AirFrame
+frames_from start [] bytes = []
+frames_from start (h ∷ heads) bytes =
+    record { from = h.from; to = h.to; bytes = drop start (take h.end bytes) }
+    ∷ frames_from h.end heads bytes
 
--- the frames of some heads, cut from the bytes of all
-unfoldable pub frames_in : List Head → List ℕ → List AirFrame
-frames_in heads bytes = map (frame_at bytes) heads
+-- the frames of all heads
+abbrev pub frames_in : List Head → List ℕ → List AirFrame
+frames_in heads bytes = frames_from 0 heads bytes
 
--- a head's frame isn't empty, and lies within the bytes of all
-abbrev pub Lies : List ℕ → Head → Type 0
-Lies bytes h = (0 < h.len) × (h.start + h.len ≤ length bytes)
+-- no frame is empty, and the last one ends at `total`
+unfoldable pub Rises : ℕ → List Head → ℕ → Type 0
+Rises start [] total = start ≡ total
+Rises start (h ∷ heads) total = (start < h.end) × (h.end ≤ total) × Rises h.end heads total
+
+-- where the frame at a place begins: the first one at `start`, each other where the one before ends
+unfoldable pub start_from : ℕ → List Head → ℕ → ℕ
+start_from start heads zero = start
+start_from start [] (suc i) = start
+start_from start (h ∷ heads) (suc i) = start_from h.end heads i

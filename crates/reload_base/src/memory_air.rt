@@ -3,6 +3,7 @@
 ghost use Rattle.std.specs.Prelude.{◌≡◌, ◌≢◌, ◌+◌, ◌^◌, ◌<◌, ◌≤◌, ◌↔◌, [], ◌∷◌, ◌++◌, length, slice_index, ℕ, IsTrue, IfOk, OnOk, OnErr};
 ghost use Rattle.reload_base.specs.Outside.{Sends, Gets, HoldBytes, size_of};
 ghost use Rattle.reload_base.specs.Fakes.{counted, next_fails, IsFaultless};
+ghost use Rattle.reload_base.specs.Heads.{start_from};
 
 use crate::air::{Air, AirFrame, Got, Sent};
 use crate::calls::Calls;
@@ -11,13 +12,13 @@ use crate::no_memory::NoMemory;
 use std::alloc::Global;
 use std::marker::Model;
 
-/// Where a frame lies in the bytes of all, and the nodes that it goes from and to.
+/// The nodes that a frame goes from and to, and where its bytes end among the bytes of all. They
+/// begin where those of the frame before it end.
 #[derive(Debug, Drop)]
 struct Head {
     from: u32,
     to: u32,
-    start: u64,
-    len: u64,
+    end: u64,
 }
 
 /// Frames in memory, a fake of the outside. Their bytes lie one behind the other in memory that
@@ -31,13 +32,13 @@ pub struct MemoryAir {
 }
 
 impl Model for MemoryAir {
-    ghost use Rattle.std.specs.Prelude.{◌≡◌, List, ◌^◌, ◌<◌, All, length};
+    ghost use Rattle.std.specs.Prelude.{◌≡◌, List, ◌^◌, ◌<◌, length};
     ghost use Rattle.std.specs.Coded.{coded_list, coded×};
     ghost use Rattle.reload_base.specs.declared.air.AirFrame.{AirFrame};
     ghost use Rattle.reload_base.specs.contracts.air.AirFrame as of_frame;
     ghost use Rattle.reload_base.specs.declared.calls.Calls.{Calls};
     ghost use Rattle.reload_base.specs.contracts.calls.Calls as of_calls;
-    ghost use Rattle.reload_base.specs.Heads.{frames_in, Lies};
+    ghost use Rattle.reload_base.specs.Heads.{frames_in, Rises};
     ghost use Rattle.reload_base.specs.Outside.{size_of};
 
     ghost Value = { List AirFrame × Calls };
@@ -47,12 +48,12 @@ impl Model for MemoryAir {
     ghost view = { λ a. (frames_in a.heads a.bytes, a.calls) };
 
     ghost invariant = { λ a. (size_of (frames_in a.heads a.bytes) ≡ length a.bytes)
-        × (length a.bytes < 2 ^ 63) × All (Lies a.bytes) a.heads };
+        × (length a.bytes < 2 ^ 63) × Rises 0 a.heads (length a.bytes) };
 }
 
 impl MemoryAir {
     /// An air without frames. The sends whose numbers are in `fail`, counted from 1, fail.
-    #[tactic(auto, using(crate::proofs::Heads::none_in, crate::proofs::Frames::size_of_none))]
+    #[tactic(auto, using(crate::proofs::Heads::none_in, crate::proofs::Heads::none_rise, crate::proofs::Frames::size_of_none))]
     pub fn new(alloc: Global, fail: &[u64]) -> Result<MemoryAir, NoMemory>
         ensures view { IfOk result (λ a. ⟦<MemoryAir as Air>⟧.view a
             ≡ record { sent = []; faults = 0 }) }
@@ -81,8 +82,7 @@ impl MemoryAir {
         let head = Head {
             from,
             to,
-            start: start as u64,
-            len: bytes.len() as u64,
+            end: self.bytes.len() as u64,
         };
         if let Err(e) = self.heads.push(head) {
             self.bytes.truncate(start);
@@ -117,7 +117,7 @@ impl Air for MemoryAir {
     }
 
     /// Gives a copy of the frame, unless memory is missing. Nothing changes.
-    #[tactic(auto, using(crate::proofs::Heads::counted_in))]
+    #[tactic(auto, using(crate::proofs::Heads::counted_from, crate::proofs::Heads::begins_from, crate::proofs::Heads::ends_within))]
     fn frame(&mut self, alloc: Global, k: u64) -> Got
         requires first { 1 ≤ k }
         requires last { k ≤ length self.old.0 }
@@ -126,9 +126,11 @@ impl Air for MemoryAir {
             (⟦<MemoryAir as Air>⟧.view self.new) k result }
         ensures fault { result ≢ Got.Failed }
     {
-        let head = &self.heads.as_slice()[(k - 1) as usize];
-        let (_, behind) = self.bytes.as_slice().split_at(head.start as usize);
-        let (bytes, _) = behind.split_at(head.len as usize);
+        let at = (k - 1) as usize;
+        let heads = self.heads.as_slice();
+        let head = &heads[at];
+        let (front, _) = self.bytes.as_slice().split_at(head.end as usize);
+        let (_, bytes) = front.split_at(start_of(heads, at) as usize);
         match Bytes::from_slice(alloc, bytes) {
             Ok(bytes) => Got::Frame(AirFrame {
                 from: head.from,
@@ -139,7 +141,7 @@ impl Air for MemoryAir {
         }
     }
 
-    #[tactic(auto, using(crate::proofs::Heads::counted_in, crate::proofs::Heads::few_in, crate::proofs::Heads::hold_bytes))]
+    #[tactic(auto, using(crate::proofs::Heads::counted_from, crate::proofs::Heads::few_in, crate::proofs::Heads::hold_bytes))]
     fn frames(&self) -> u64
         ensures value { result ≡ length self.now.0 }
         ensures few { result ≤ size_of self.now.0 }
@@ -154,6 +156,17 @@ impl Air for MemoryAir {
     {
         self.bytes.len() as u64
     }
+}
+
+/// Where the bytes of the frame at a place begin.
+fn start_of(heads: &[Head], at: usize) -> u64
+    requires { at ≤ length heads.now }
+    ensures { result ≡ start_from 0 heads.now at }
+{
+    if at == 0 {
+        return 0;
+    }
+    heads[at - 1].end
 }
 
 /// Does nothing, and tells contracts that these are bytes.
