@@ -1,5 +1,5 @@
 -- Entries by the time at which they are due.
-use Rattle.std.specs.Prelude.{ℕ, ◌≡◌, ◌==◌, ◌<◌, nat_lt, Bool, true, cond, ◌||◌, ◌&&◌, List, [], ◌∷◌, Option, Some, None, IsTrue, find}
+use Rattle.std.specs.Prelude.{ℕ, ◌≡◌, ◌==◌, ◌<◌, nat_lt, nat_le, Bool, true, cond, ◌||◌, ◌&&◌, List, [], ◌∷◌, Option, Some, None, IsTrue, find}
 use Rattle.std.specs.List.{AllByRecursion}
 
 -- when something is due, in milliseconds, under which id, whose it is, if it has an owner, and the
@@ -54,3 +54,12 @@ StandsBefore a b = IsTrue (comes_before a b) × (a.id ≡ b.id → ⊥) × (a.pl
 abbrev pub AreInOrder : List Entry → Type 0
 AreInOrder [] = Unit {0}
 AreInOrder (x ∷ xs) = AllByRecursion (StandsBefore x) xs × AreInOrder xs
+
+-- the entries from the first on that are due at a time
+abbrev pub due_until : ℕ → List Entry → List Entry
+due_until time [] = []
+due_until time (x ∷ xs) = cond (nat_le x.due time) (x ∷ due_until time xs) []
+
+-- when an entry is due, under which id, and whose it is
+abbrev pub told : Entry → ℕ × ℕ × Option ℕ
+told e = (e.due, e.id, e.owner)

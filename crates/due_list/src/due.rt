@@ -1,12 +1,12 @@
 //! Entries in the order in which they are due.
 
-ghost use Rattle.std.specs.Prelude.{◌≡◌, ◌+◌, ◌<◌, ◌≤◌, [], Some, None, IsSome, IsOk, IfOk, OnOk, OnErr, slice_get};
+ghost use Rattle.std.specs.Prelude.{◌≡◌, ◌+◌, ◌<◌, ◌≤◌, [], Some, None, IsSome, IsOk, IfOk, OnOk, OnErr, map, slice_get};
 ghost use Rattle.std.specs.Option.{option_map};
-ghost use Rattle.due_list.specs.Entries.{Entry, AreInOrder, entry_at, entry_of, shifted, with_entry, without};
+ghost use Rattle.due_list.specs.Entries.{Entry, AreInOrder, due_until, entry_at, entry_of, shifted, told, with_entry, without};
 
 use crate::place::Place;
 use crate::timers::{Timer, put, take};
-use reload_base::NoMemory;
+use reload_base::{List, NoMemory};
 use std::alloc::Global;
 use std::marker::Model;
 
@@ -122,6 +122,26 @@ impl Due {
     {
         let timer = self.timers.first()?;
         Some((timer.due, timer.id, timer.owner))
+    }
+
+    /// The entries that are due at a time in milliseconds, from the first on: when each is due, its
+    /// id, and its owner.
+    pub fn until(
+        &self,
+        alloc: Global,
+        time: u64,
+    ) -> Result<List<(u64, u64, Option<u128>)>, NoMemory>
+        ensures due { IfOk result (λ found. found ≡ map told (due_until time self.now.entries)) }
+        ensures sound { AreInOrder self.now.entries }
+    {
+        let mut found = List::new(alloc);
+        for timer in self.timers.as_slice() {
+            if time < timer.due {
+                break;
+            }
+            found.push((timer.due, timer.id, timer.owner))?;
+        }
+        Ok(found)
     }
 
     /// Makes the entry at a place due at another time, in milliseconds. It keeps its place.

@@ -1,14 +1,14 @@
 -- Transactions whose ids are apart.
-use Rattle.std.proofs.Common.{◌≡◌, ℕ, Bool, true, false, cond, List, [], ◌∷◌, ◌++◌, refl, ap, sym, subst, ◌∙◌}
+use Rattle.std.proofs.Common.{◌≡◌, ℕ, Bool, true, false, cond, List, [], ◌∷◌, ◌++◌, refl, sym, subst, ◌∙◌}
 use Rattle.std.specs.Prelude.{Option, Some, None}
 use Rattle.std.specs.List.{AllByRecursion}
-use Rattle.std.specs.Ordering.{nat_cmp, eq_by_cmp, is_eq}
+use Rattle.std.specs.Ordering.{nat_cmp, eq_by_cmp}
 use Rattle.std.specs.Cmp.{nat_cmp_total}
 use Rattle.std.specs.FinMap.{FinMap, get, insert, remove, empty, get-insert, get-remove, get-empty, nat_cmp-IsAntisymmetric}
 use Rattle.transaction_table.specs.declared.outbox.Message.{Message}
 use Rattle.transaction_table.specs.declared.outbox.Outbox.{Outbox}
 use Rattle.transaction_table.specs.declared.outbox.Request.{Request}
-use Rattle.transaction_table.specs.Outboxes.{opened, behind, promoted, next_in, next_of, replaced, changed, again_outbox, again_request}
+use Rattle.transaction_table.specs.Outboxes.{opened, behind, next_of, replaced, changed}
 use Rattle.transaction_table.specs.Tables.{Txns, Outboxes, Requests, messages, HasNot, AreDistinct, IsApart, AreApart, IsNew}
 use Rattle.transaction_table.proofs.NumberMaps.{equal_of}
 

@@ -1,4 +1,5 @@
 pub mod Apart
+pub mod Dues
 pub mod Listed
 pub mod NumberMaps
 pub mod Once

@@ -1,14 +1,12 @@
 -- Maps by numbers.
-use Rattle.std.proofs.Common.{◌≡◌, ℕ, List, length, Vec, Global, Bool, true, false, cond, refl, ap, sym, ◌∙◌}
-use Rattle.std.specs.Prelude.{IsSome, is_some, Option, Some, None}
+use Rattle.std.proofs.Common.{◌≡◌, ℕ, List, Bool, true, false, cond, refl, ap, sym, ◌∙◌}
+use Rattle.std.specs.Prelude.{is_some, Option, Some, None}
 use Rattle.std.specs.Ordering.{nat_cmp, eq_by_cmp, is_eq}
 use Rattle.std.specs.declared.cmp.Ordering.{Ordering}
 use Rattle.std.specs.declared.cmp.Ordering.TheVariants.{Less, Equal, Greater}
 use Rattle.std.specs.Cmp.{nat_cmp_total}
-use Rattle.std.specs.Cmp.Lexicographic.{slice_cmp, nat_list_cmp_total}
-use Rattle.std.specs.Map.{lookup, remove_entry, set_value}
-use Rattle.std.specs.BTreeMap.{insert_entry}
-use Rattle.std.specs.FinMap.{FinMap, IsAntisymmetric, slice_cmp-IsAntisymmetric, nat_cmp-IsAntisymmetric, entries, get, insert, remove, len, same_map, get-insert, get-remove}
+use Rattle.std.specs.Map.{lookup, set_value}
+use Rattle.std.specs.FinMap.{FinMap, nat_cmp-IsAntisymmetric, get, insert, remove, same_map, get-insert, get-remove}
 use Rattle.ordered_tables.proofs.Trees.{at}
 pub use Rattle.ordered_tables.proofs.NumberMaps.{Rising, numbered_of, numbered_get, numbered_insert, numbered_set, numbered_remove, numbered_len, numbered_entries}
 use Rattle.transaction_table.specs.Outboxes.{changed}

@@ -1,5 +1,5 @@
 -- A transaction is answered at most once.
-use Rattle.std.proofs.Common.{◌≡◌, ℕ, ◌==◌, Bool, true, false, cond, List, [], ◌∷◌, refl, ap, sym, subst, ◌∙◌, arith}
+use Rattle.std.proofs.Common.{◌≡◌, ℕ, ◌==◌, true, false, cond, List, [], ◌∷◌, refl, ap, sym, subst, ◌∙◌, arith}
 use Rattle.std.specs.Prelude.{Option, Some, None}
 use Rattle.std.specs.List.{AllByRecursion}
 use Rattle.std.specs.Ordering.{nat_cmp, eq_by_cmp, is_eq, ordering_reverse}
@@ -13,8 +13,8 @@ use Rattle.transaction_table.specs.declared.outbox.Outbox.{Outbox}
 use Rattle.transaction_table.specs.declared.outbox.Request.{Request}
 use Rattle.transaction_table.specs.declared.spot.Spot.{Spot}
 use Rattle.transaction_table.specs.declared.spot.Spot.TheVariants.{Head, Issued}
-use Rattle.transaction_table.specs.Outboxes.{opened, promoted, next_of, replaced}
-use Rattle.transaction_table.specs.Tables.{Txns, AreDistinct, AreApart, head_spot, request_spot, either_spot, spot_of, outstanding, txn_at, ended, after_answer}
+use Rattle.transaction_table.specs.Outboxes.{opened, next_of, replaced}
+use Rattle.transaction_table.specs.Tables.{Txns, AreApart, head_spot, request_spot, either_spot, spot_of, outstanding, txn_at, ended, after_answer}
 
 by_reverse : (r : Ordering) → r ≡ ordering_reverse r → is_eq r ≡ true
 by_reverse Less e = absurd (cc)

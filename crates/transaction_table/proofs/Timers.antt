@@ -32,7 +32,7 @@ flipped : (d i e j : ℕ) → before d i e j ≡ true → before e j d i ≡ fal
 flipped d i e j p = grind (arith, nat_tests, p)
 
 -- a timer is another one, or comes after it
-abbrev IsBehind : Timer → Timer → Type 0
+abbrev pub IsBehind : Timer → Timer → Type 0
 IsBehind x y = (y ≡ x) ⊎ (comes_before x y ≡ true)
 
 abbrev Loses : Timer → Option Timer → Type 0
@@ -40,7 +40,7 @@ Loses x None = Unit {0}
 Loses x (Some y) = IsBehind x y
 
 -- a timer is one of timers
-abbrev IsOne : Timer → List Timer → Type 0
+abbrev pub IsOne : Timer → List Timer → Type 0
 IsOne x [] = ⊥
 IsOne x (y ∷ ys) = (y ≡ x) ⊎ IsOne x ys
 
@@ -65,7 +65,7 @@ stays_first : (x : Timer) (ts : List Timer) → AllByRecursion (IsBehind x) ts �
 stays_first x [] h = refl
 stays_first x (y ∷ ys) h = ap (λ b. first_from b ys) (stays x y h.0) ∙ stays_first x ys h.1
 
-comes_first : (x : Timer) (b : Option Timer) (ts : List Timer) → Loses x b → AllByRecursion (IsBehind x) ts → IsOne x ts → first_from b ts ≡ Some x
+pub comes_first : (x : Timer) (b : Option Timer) (ts : List Timer) → Loses x b → AllByRecursion (IsBehind x) ts → IsOne x ts → first_from b ts ≡ Some x
 comes_first x b [] l h o = absurd o
 comes_first x b (y ∷ ys) l h (inl e) =
     ap (λ z. first_from (earlier b z) ys) e ∙ ap (λ c. first_from c ys) (wins x b l) ∙ stays_first x ys h.1
@@ -135,13 +135,13 @@ head_timer e = record { due = e.1.due; id = e.1.head.id; spot = Head e.0 }
 abbrev request_timer : ℕ × Request → Timer
 request_timer e = record { due = e.1.due; id = e.1.message.id; spot = Issued e.1.message.id }
 
-abbrev moment : Entry → Time
+abbrev pub moment : Entry → Time
 moment e = (e.due, e.owner)
 
-abbrev triple : Entry → ℕ × ℕ × Option ℕ
+abbrev pub triple : Entry → ℕ × ℕ × Option ℕ
 triple e = (e.due, e.id, e.owner)
 
-abbrev entry_timer : Entry → Timer
+abbrev pub entry_timer : Entry → Timer
 entry_timer e = timer_at (triple e)
 
 one_time : (x y : Time) → ◌≡◌ {A = Option Time} (Some x) (Some y) → x ≡ y
@@ -161,7 +161,7 @@ behind_first e (x ∷ es) h k d w f =
       | false ↦ λ t g. behind_first e es h.1 k d w g
     ] refl f
 
-is_behind : (e : Entry) (es : List Entry) → AreInOrder (e ∷ es) → (k d : ℕ) (w : Option ℕ) → time_of k (e ∷ es) ≡ Some (d, w) → IsBehind (entry_timer e) (timer_at (d, k, w))
+pub is_behind : (e : Entry) (es : List Entry) → AreInOrder (e ∷ es) → (k d : ℕ) (w : Option ℕ) → time_of k (e ∷ es) ≡ Some (d, w) → IsBehind (entry_timer e) (timer_at (d, k, w))
 is_behind e es h k d w f =
     elim (e.id == k) as (λ b. (e.id == k) ≡ b → option_map moment (cond b (Some e) (entry_of k es)) ≡ Some (d, w) → IsBehind (entry_timer e) (timer_at (d, k, w))) [
       | true ↦ λ t g.
@@ -172,13 +172,13 @@ is_behind e es h k d w f =
 
 module _ (t : Txns) where
   -- what holds of the timer of each id that is due holds of each timer
-  all_timers : (es : List Entry) → IsListed es t → (P : Timer → Type 0) → ((k d : ℕ) (w : Option ℕ) → time_of k es ≡ Some (d, w) → P (timer_at (d, k, w))) → AllByRecursion P (timers t)
+  pub all_timers : (es : List Entry) → IsListed es t → (P : Timer → Type 0) → ((k d : ℕ) (w : Option ℕ) → time_of k es ≡ Some (d, w) → P (timer_at (d, k, w))) → AllByRecursion P (timers t)
   all_timers es l P f =
       all_of_both P (head_timers (entries t.outboxes)) (request_timers (entries t.issued))
       (all_in head_timer P t.outboxes (λ q o g. f o.head.id o.due (Some q) (l.1.heads q o g)))
       (all_in request_timer P t.issued (λ k r g. let at = l.1.requests k r g in f r.message.id r.due None (subst (λ j. time_of j es ≡ Some (r.due, None)) (sym at.0) at.1)))
 
-  is_one : (es : List Entry) → IsListed es t → (k d : ℕ) (w : Option ℕ) → time_of k es ≡ Some (d, w) → IsThere k w t → IsOne (timer_at (d, k, w)) (timers t)
+  pub is_one : (es : List Entry) → IsListed es t → (k d : ℕ) (w : Option ℕ) → time_of k es ≡ Some (d, w) → IsThere k w t → IsOne (timer_at (d, k, w)) (timers t)
   is_one es l k d None f (r, g) =
       let at = l.1.requests k r g in
       let p : ◌≡◌ {A = Option Time} (Some (r.due, None)) (Some (d, None)) = sym at.1 ∙ f in

@@ -1,5 +1,5 @@
 -- The transactions of a node: its outboxes, and its own requests outside them.
-use Rattle.std.specs.Prelude.{ℕ, ◌≡◌, ◌==◌, ◌<◌, ◌≤◌, nat_lt, nat_le, Bool, true, false, cond, ◌||◌, ◌&&◌, List, [], ◌∷◌, ◌++◌, map, Option, Some, None}
+use Rattle.std.specs.Prelude.{ℕ, zero, suc, ◌≡◌, ◌==◌, nat_lt, nat_le, Bool, cond, ◌||◌, ◌&&◌, List, [], ◌∷◌, ◌++◌, map, length, Option, Some, None}
 use Rattle.std.specs.Option.{option_map}
 use Rattle.std.specs.List.{AllByRecursion}
 use Rattle.std.specs.Ordering.{nat_cmp}
@@ -18,7 +18,7 @@ use Rattle.transaction_table.specs.declared.spot.Spot.{Spot}
 use Rattle.transaction_table.specs.declared.spot.Spot.TheVariants.{Head, Issued}
 use Rattle.transaction_table.specs.declared.spot.Timer.{Timer}
 use Rattle.transaction_table.specs.Sends.{due_after, is_over, answered, timed_out}
-use Rattle.transaction_table.specs.Outboxes.{opened, behind, promoted, again_outbox, again_request, changed, message_of, next_of, outstanding_of}
+use Rattle.transaction_table.specs.Outboxes.{opened, behind, again_outbox, again_request, changed, message_of, next_of, outstanding_of}
 
 -- by Node-ID the outboxes that aren't empty
 abbrev pub Outboxes : Type 0
@@ -189,3 +189,25 @@ ticked now limit t = elim (due_spot now t) [
   | None ↦ (tick.Idle, t)
   | Some s ↦ ticked_at now limit t s (txn_at s t)
 ]
+
+-- timers without those of an id
+abbrev pub others : ℕ → List Timer → List Timer
+others id [] = []
+others id (x ∷ xs) = cond (x.id == id) (others id xs) (x ∷ others id xs)
+
+-- where those of at most so many timers stand that are due, the first one first
+abbrev pub due_in : ℕ → ℕ → List Timer → List Spot
+due_in zero now ts = []
+due_in (suc n) now ts = elim (first_from None ts) [
+  | None ↦ []
+  | Some x ↦ cond (nat_le x.due now) (x.spot ∷ due_in n now (others x.id ts)) []
+]
+
+-- where all transactions stand that are due, by rising time and id
+unfoldable pub due_spots : ℕ → Txns → List Spot
+due_spots now t = due_in (length (timers t)) now (timers t)
+
+-- the table once the transaction at a spot was sent again, or ended where as many sends were made
+-- as a limit allows
+unfoldable pub renewed : ℕ → Option ℕ → Txns → Spot → Txns
+renewed now limit t s = (ticked_at now limit t s (txn_at s t)).1

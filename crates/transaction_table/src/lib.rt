@@ -14,6 +14,7 @@ mod txn;
 pub use again::{Again, Taken, Ticked};
 pub use outbox::{Message, Outbox, Request};
 pub use queue::Queue;
+pub use spot::Spot;
 pub use table::Table;
 pub use txn::{Answered, Left, Outstanding, Queued, TimedOut, Txn};
 

@@ -1,7 +1,10 @@
 //! Where an outstanding transaction stands.
 
-ghost use Rattle.std.specs.Prelude.{◌≡◌};
+ghost use Rattle.std.specs.Prelude.{◌≡◌, map, IfOk};
 ghost use Rattle.transaction_table.specs.Timed.{timer_at};
+
+use reload_base::{List, NoMemory};
+use std::alloc::Global;
 
 /// Where an outstanding transaction stands.
 #[derive(Clone, Copy, Debug)]
@@ -30,4 +33,15 @@ pub fn timer_of(due: u64, id: u64, owner: Option<u128>) -> Timer
         None => Spot::Issued(id),
     };
     Timer { due, id, spot }
+}
+
+/// Where those stand that are due at times under ids, each with its owner, if it has one.
+pub fn spots_of(alloc: Global, timers: &[(u64, u64, Option<u128>)]) -> Result<List<Spot>, NoMemory>
+    ensures { IfOk result (λ spots. spots ≡ map (λ x. (timer_at x).spot) timers.now) }
+{
+    let mut spots = List::new(alloc);
+    for (due, id, owner) in timers {
+        spots.push(timer_of(*due, *id, *owner).spot)?;
+    }
+    Ok(spots)
 }

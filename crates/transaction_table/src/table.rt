@@ -1,6 +1,6 @@
 //! The transactions of a node.
 
-ghost use Rattle.std.specs.Prelude.{◌≡◌, ◌==◌, ◌<◌, ◌^◌, not, is_some, map, Some, None, IfOk, OnOk, OnErr};
+ghost use Rattle.std.specs.Prelude.{◌≡◌, ◌+◌, ◌==◌, ◌<◌, ◌≤◌, ◌^◌, fold, length, not, is_some, map, Some, None, IfOk, OnOk, OnErr};
 ghost use Rattle.std.specs.Option.{option_copied, option_map};
 ghost use Rattle.std.specs.FinMap as maps;
 ghost use Rattle.transaction_table.specs.Tables as txns;
@@ -10,11 +10,11 @@ use crate::RESEND_AFTER;
 use crate::again::{Taken, Ticked};
 use crate::number_table::NumberTable;
 use crate::outbox::{Outbox, Request};
-use crate::spot::{Spot, Timer, timer_of};
+use crate::spot::{Spot, Timer, spots_of, timer_of};
 use crate::timing::{clear, pass, set};
 use crate::txn::{Outstanding, Queued, Txn};
 use due_list::Due;
-use reload_base::NoMemory;
+use reload_base::{List, NoMemory};
 use reload_ids::NodeId;
 use std::alloc::Global;
 use std::marker::Model;
@@ -203,9 +203,21 @@ impl Table {
         ensures does { result ≡ (txns.ticked now limit self.old).0 }
         ensures table { self.new ≡ (txns.ticked now limit self.old).1 }
     {
-        let Some(spot) = self.due_spot(now) else {
-            return Ticked::Idle;
-        };
+        match self.due_spot(now) {
+            Some(spot) => self.tick_at(spot, now, limit),
+            None => Ticked::Idle,
+        }
+    }
+
+    /// Sends the transaction at a spot again, or ends it where as many sends were made as the limit
+    /// allows.
+    fn tick_at(&mut self, spot: Spot, now: u64, limit: Option<u8>) -> Ticked
+        requires { now < 2 ^ 62 }
+        ensures does { result
+            ≡ (txns.ticked_at now limit self.old spot (txns.txn_at spot self.old)).0 }
+        ensures table { self.new
+            ≡ (txns.ticked_at now limit self.old spot (txns.txn_at spot self.old)).1 }
+    {
         let Some((peer, id, sends)) = self.sends(spot) else {
             return Ticked::Idle;
         };
@@ -216,6 +228,40 @@ impl Table {
         match self.end(spot, now) {
             Some(t) => Ticked::Over(t.timed_out()),
             None => Ticked::Idle,
+        }
+    }
+
+    /// Where all transactions stand that are due at a time in milliseconds, by rising time and id.
+    pub fn due(&self, alloc: Global, now: u64) -> Result<List<Spot>, NoMemory>
+        ensures due { IfOk result (λ spots. spots ≡ txns.due_spots now self.now) }
+        ensures few { IfOk result (λ spots. length spots
+            ≤ maps.len self.now.outboxes + maps.len self.now.issued) }
+    {
+        let found = self.due.until(alloc, now)?;
+        spots_of(alloc, found.as_slice())
+    }
+
+    /// Sends each of the transactions at some spots again, or ends it where as many sends were made
+    /// as the limit allows, at a time in milliseconds. Behind a head that ended the next message of
+    /// its outbox is sent. This takes no memory.
+    pub fn renew(&mut self, spots: &[Spot], now: u64, limit: Option<u8>)
+        requires { now < 2 ^ 62 }
+        ensures { self.new ≡ fold (txns.renewed now limit) self.old spots.now }
+    {
+        for spot in spots {
+            self.renew_at(*spot, now, limit);
+        }
+    }
+
+    #[tactic(auto, unfolding(crate::specs::Tables::renewed))]
+    fn renew_at(&mut self, spot: Spot, now: u64, limit: Option<u8>)
+        requires { now < 2 ^ 62 }
+        ensures { self.new ≡ txns.renewed now limit self.old spot }
+    {
+        match self.tick_at(spot, now, limit) {
+            Ticked::Over(t) => drop(t.into_message()),
+            Ticked::Sent { peer: _, id: _ } => {}
+            Ticked::Idle => {}
         }
     }
 
@@ -240,7 +286,7 @@ impl Table {
     }
 
     /// The peer and the id of the transaction at a spot, and how many times it was sent.
-    fn sends(&self, spot: Spot) -> Option<(NodeId, u64, u8)>
+    pub fn sends(&self, spot: Spot) -> Option<(NodeId, u64, u8)>
         ensures { result ≡ option_map (λ t. (t.peer, t.id, t.sends)) (txns.txn_at spot self.now) }
     {
         match spot {
@@ -252,6 +298,16 @@ impl Table {
                 let request = self.issued.get(u128::from(id))?;
                 Some((request.peer, request.message.id, request.sends))
             }
+        }
+    }
+
+    /// The bytes of the transaction at a spot.
+    pub fn bytes_at(&self, spot: Spot) -> Option<&[u8]>
+        ensures { option_copied result ≡ option_map (λ t. t.message) (txns.txn_at spot self.now) }
+    {
+        match spot {
+            Spot::Head(peer) => self.head(NodeId(peer)),
+            Spot::Issued(id) => Some(self.issued.get(u128::from(id))?.message.bytes.as_slice()),
         }
     }
 

@@ -9,6 +9,10 @@ fn entries_go_by_time_and_id(rt: HostRuntime) -> Result<(), Fail> {
     let two = due.insert(3, 2)?;
     let zero = due.insert(5, 0)?;
     assert_eq!(rt; due.first_due(), Some((3, 2)));
+    assert_eq!(rt;
+        due.until(rt.alloc(), 4)?.as_slice(),
+        [(3, 2, None)].as_slice()
+    );
     due.shift(two, 9);
     assert_eq!(rt; due.first_due(), Some((5, 0)));
     assert_eq!(rt; due.unlink(one), 1);

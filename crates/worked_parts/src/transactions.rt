@@ -2,7 +2,7 @@ use reload_base::{Bytes, NoMemory};
 use reload_ids::NodeId;
 use std::alloc::Global;
 use std::test::Fail;
-use transaction_table::{Again, Left, Table, Taken, Ticked, Txn};
+use transaction_table::{Again, Left, Spot, Table, Taken, Ticked, Txn};
 
 fn message(alloc: Global, byte: u8) -> Result<Bytes, NoMemory> {
     Bytes::from_slice(alloc, &[byte])
@@ -44,6 +44,10 @@ fn an_empty_table_does_nothing(rt: HostRuntime) -> Result<(), Fail> {
         Taken::NotMine => {}
     }
     assert_eq!(rt; sent(table.tick(3_000, None)), None);
+    assert_eq!(rt; table.due(rt.alloc(), 3_000)?.len(), 0);
+    table.renew(&[], 3_000, Some(5));
+    let spot = Spot::Issued(1);
+    assert_eq!(rt; (table.sends(spot), table.bytes_at(spot)), (None, None));
     table.forget(peer);
     assert_eq!(rt; (table.head_id(peer), table.message(peer, 1)), (None, None));
     assert_eq!(rt; (table.empty(peer), table.all_empty()), (true, true));

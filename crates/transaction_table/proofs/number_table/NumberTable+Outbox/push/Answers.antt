@@ -1,11 +1,9 @@
-use Rattle.std.proofs.Common.{◌≡◌, refl, ap, sym, ◌∙◌}
-use Rattle.std.specs.Prelude.{Some, None}
-use Rattle.std.specs.FinMap as map
-use Rattle.std.specs.Option.{option_copied_mut, option_map}
+use Rattle.std.proofs.Common.{ap, sym, ◌∙◌}
+use Rattle.std.specs.Option.{option_copied_mut}
 use Rattle.std.proofs.lemmas.Result.{on_ok_weaker}
-use Rattle.transaction_table.specs.Outboxes.{again_outbox, again_request, behind, changed, next_in, promoted, promoted_head, put_some}
-use Rattle.transaction_table.proofs.NumberMaps.{numbered_of, found, written, changed_there, changed_none, same_there}
-use Rattle.transaction_table.proofs.Outboxes.{promoted_there, ended_before, ended_last, on_refusal}
+use Rattle.transaction_table.specs.Outboxes.{behind}
+use Rattle.transaction_table.proofs.NumberMaps.{numbered_of, changed_there, changed_none, same_there}
+use Rattle.transaction_table.proofs.Outboxes.{on_refusal}
 use Rattle.transaction_table.proofs.number_table.«NumberTable+Outbox».push.Goals as goal
 
 pub returns-clause-ok : goal.returns-clause-ok

@@ -1,9 +1,7 @@
-use Rattle.std.proofs.Common.{◌≡◌, refl, ap, sym, ◌∙◌}
-use Rattle.std.specs.Prelude.{Some, None}
-use Rattle.std.specs.FinMap as map
+use Rattle.std.proofs.Common.{ap, sym, ◌∙◌}
 use Rattle.std.specs.Option.{option_copied_mut}
-use Rattle.transaction_table.specs.Outboxes.{again_outbox, again_request, behind, changed, next_in, promoted, promoted_head, put_some}
-use Rattle.transaction_table.proofs.NumberMaps.{numbered_of, found, written, changed_there, changed_none, same_there}
+use Rattle.transaction_table.specs.Outboxes.{again_outbox}
+use Rattle.transaction_table.proofs.NumberMaps.{numbered_of, changed_there, changed_none}
 use Rattle.transaction_table.proofs.number_table.«NumberTable+Outbox».repeat_head.Goals as goal
 
 pub returns : goal.returns

@@ -1,10 +1,6 @@
-use Rattle.std.proofs.Common.{◌≡◌, refl, ap, sym, subst, ◌∙◌}
-use Rattle.std.specs.Prelude.{Some, None, is_some, unwrap_or, if◌then◌else◌}
-use Rattle.std.specs.Ordering.{nat_cmp}
-use Rattle.std.specs.Cmp.Lexicographic.{slice_cmp}
+use Rattle.std.proofs.Common.{ap, sym, ◌∙◌}
 use Rattle.std.specs.FinMap as map
-use Rattle.ordered_tables.proofs.Trees.{seen_empty}
-use Rattle.transaction_table.proofs.NumberMaps.{numbered_of, numbered_get, numbered_insert, numbered_set, numbered_remove, numbered_len, numbered_entries}
+use Rattle.transaction_table.proofs.NumberMaps.{numbered_get, numbered_remove}
 use Rattle.transaction_table.proofs.number_table.NumberTable.remove.Goals as goal
 
 pub returns-clause-value : goal.returns-clause-value
