@@ -2,3 +2,4 @@ pub mod Codes
 pub mod Kept
 pub mod Noted
 pub mod Sendings
+pub mod Small

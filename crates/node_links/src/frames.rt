@@ -1,14 +1,17 @@
 //! The frames in which what a node sends leaves it.
 
 ghost use Rattle.std.specs.Prelude.{◌≡◌, ◌≤◌, ◌∷◌, ◌++◌, Some, length, IfOk, IfSome, OnOk};
-ghost use Rattle.std.specs.Option.{option_map};
+ghost use Rattle.std.specs.Option.{option_and_then, option_map};
+ghost use Rattle.transaction_table.specs.Tables.{txn_at};
 ghost use Rattle.wire_core.specs.declared.limits.TheConstants.{MAX_MESSAGE};
 ghost use Rattle.link_framing.specs.declared.frame.Frame.TheVariants.{Payload};
 ghost use Rattle.link_framing.specs.Framing.{frame};
 ghost use Rattle.forwarding_header.specs.Header.{IsSpelledHeader};
 ghost use Rattle.node_messages.specs.Making.{with_length, whole};
 ghost use Rattle.node_model.specs.Links as model;
-ghost use Rattle.node_model.specs.Nodes.{frames_of};
+ghost use Rattle.node_model.specs.Nodes.{frames_of, frames_of_all, links_after, links_after_all};
+ghost use Rattle.node_model.specs.Clocks.{post_again, posts_again};
+ghost use Rattle.node_links.specs.Small.{AreSmall};
 ghost use Rattle.node_links.specs.Sendings.{posted, post_of, IsSending, payload_front};
 
 use crate::links::Links;
@@ -19,6 +22,7 @@ use node_messages::header_len;
 use reload_base::{Bytes, List, NoMemory};
 use reload_ids::NodeId;
 use std::alloc::Global;
+use transaction_table::{Spot, Table};
 use wire_core::{put_u8, put_u24, put_u32};
 
 /// The front of a payload's frame, with room for a message of so many bytes.
@@ -217,5 +221,69 @@ pub(crate) fn frames_heard(
     let mut out = List::new(alloc);
     out.push(ack_to(alloc, links, from, sequence)?)?;
     add_sent(alloc, links, sending, &mut out)?;
+    Ok(out)
+}
+
+/// What is sent again of the transaction at a spot, if anything is: to whom, and its bytes, none
+/// where it has no spelling.
+fn posted_again(table: &Table, spot: Spot, limit: Option<u8>) -> Option<(NodeId, Option<&[u8]>)>
+    ensures { option_map (λ p. posted p.0 (option_map (λ m. m.now) p.1)) result
+        ≡ option_and_then (post_again limit) (txn_at spot table.now) }
+{
+    let (to, _, sends) = table.sends(spot)?;
+    if limit.is_some_and(|limit| limit <= sends) {
+        return None;
+    }
+    let bytes = table.bytes_at(spot)?;
+    if bytes.is_empty() {
+        return Some((to, None));
+    }
+    Some((to, Some(bytes)))
+}
+
+/// Adds the frame in which the transaction at a spot is sent again, if it is, and notes that its
+/// sequence is used.
+fn add_again(
+    alloc: Global,
+    links: &mut Links,
+    table: &Table,
+    spot: Spot,
+    limit: Option<u8>,
+    out: &mut List<(NodeId, Bytes)>,
+) -> Result<(), NoMemory>
+    requires { AreSmall table.now }
+    ensures frames { OnOk result (out.new ≡ out.old
+        ++ frames_of links.old (option_and_then (post_again limit) (txn_at spot table.now))) }
+    ensures links { OnOk result (links.new
+        ≡ links_after (option_and_then (post_again limit) (txn_at spot table.now)) links.old) }
+{
+    match posted_again(table, spot, limit) {
+        None => Ok(()),
+        Some((to, message)) => {
+            add_posted(alloc, links, to, message, out)?;
+            links.note_sent(to)
+        }
+    }
+}
+
+/// The frames in which the transactions at some spots are sent again, save those that were sent as
+/// often as a limit allows. Their sequences are used.
+pub(crate) fn frames_again(
+    alloc: Global,
+    links: &mut Links,
+    table: &Table,
+    spots: &[Spot],
+    limit: Option<u8>,
+) -> Result<List<(NodeId, Bytes)>, NoMemory>
+    requires { AreSmall table.now }
+    ensures frames { IfOk result (λ frames. frames
+        ≡ frames_of_all links.old (posts_again limit table.now spots.now)) }
+    ensures links { OnOk result (links.new
+        ≡ links_after_all (posts_again limit table.now spots.now) links.old) }
+{
+    let mut out = List::new(alloc);
+    for spot in spots {
+        add_again(alloc, links, table, *spot, limit, &mut out)?;
+    }
     Ok(out)
 }

@@ -3,14 +3,19 @@
 ghost use Rattle.std.specs.Prelude.{◌≡◌, unwrap_or, IfOk, OnOk, OnErr};
 ghost use Rattle.std.specs.FinMap as map;
 ghost use Rattle.node_model.specs.Links as model;
+ghost use Rattle.node_model.specs.Nodes.{frames_of_all, links_after_all};
+ghost use Rattle.node_model.specs.Clocks.{posts_again};
 ghost use Rattle.node_links.specs.Noted.{noted};
+ghost use Rattle.node_links.specs.Small.{AreSmall};
 
+use crate::frames::frames_again;
 use link_framing::Acks;
 use ordered_tables::NumberTable;
-use reload_base::NoMemory;
+use reload_base::{Bytes, List, NoMemory, TryCopy};
 use reload_ids::NodeId;
 use std::alloc::Global;
 use std::marker::Model;
+use transaction_table::{Spot, Table};
 
 /// By Node-ID the sequence of the last payload that was sent there, and the sequences of those that
 /// were heard from there (RFC 6940, section 6.6.2).
@@ -93,6 +98,40 @@ impl Links {
             Some(to) => self.note_both(from, sequence, to),
             None => self.note_heard(from, sequence),
         }
+    }
+
+    /// The frames in which the transactions at some spots are sent again, save those that were sent
+    /// as often as a limit allows; their sequences are used. After `NoMemory` the links are as
+    /// before.
+    pub fn resend(
+        &mut self,
+        alloc: Global,
+        table: &Table,
+        spots: &[Spot],
+        limit: Option<u8>,
+    ) -> Result<List<(NodeId, Bytes)>, NoMemory>
+        requires { AreSmall table.now }
+        ensures frames { IfOk result (λ frames. frames
+            ≡ frames_of_all self.old (posts_again limit table.now spots.now)) }
+        ensures ok { OnOk result (self.new
+            ≡ links_after_all (posts_again limit table.now spots.now) self.old) }
+        ensures err { OnErr result (self.new ≡ self.old) }
+    {
+        let mut links = self.sent_alone(alloc)?;
+        let frames = frames_again(alloc, &mut links, table, spots, limit)?;
+        std::mem::swap(&mut self.sent, &mut links.sent);
+        Ok(frames)
+    }
+
+    /// What was sent, without what was heard.
+    fn sent_alone(&self, alloc: Global) -> Result<Links, NoMemory>
+        ensures { IfOk result (λ links. links ≡ record self.now { heard = map.empty }) }
+    {
+        Ok(Links {
+            alloc: self.alloc,
+            sent: self.sent.copy(alloc)?,
+            heard: NumberTable::new(alloc),
+        })
     }
 
     /// What is sent is noted first, since that can be taken back without memory.

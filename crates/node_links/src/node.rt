@@ -8,8 +8,10 @@ ghost use Rattle.node_model.specs.declared.limits.TheConstants.{MAX_LOAD};
 ghost use Rattle.node_model.specs.Links.{ack_to};
 ghost use Rattle.node_model.specs.Nodes as model;
 ghost use Rattle.node_model.specs.Clients.{node_asking};
+ghost use Rattle.node_model.specs.Clocks.{posts_again, node_clocked};
 ghost use Rattle.node_links.specs.declared.limits.TheConstants.{MAX_NUMBER, MAX_WORK};
 ghost use Rattle.node_links.specs.Sendings.{posted, post_of, IsSending};
+ghost use Rattle.node_links.specs.Small.{AreSmall};
 
 use crate::frames::{frames_heard, frames_posted};
 use crate::links::Links;
@@ -20,6 +22,7 @@ use reload_ids::{NodeId, overlay_of};
 use security_block::About;
 use std::alloc::Global;
 use std::marker::Model;
+use transaction_table::{Spot, Table};
 
 /// What a peer and a client have: its number, whom its certificate is about, its configuration,
 /// its links, and how many transaction ids it used, inputs it handled and frames it sent.
@@ -180,6 +183,31 @@ impl Node {
         let frames = frames_posted(alloc, &self.links, to, message)?;
         self.links.note_sent(to)?;
         self.ids += 1;
+        self.inputs += 1;
+        self.frames += frames.len() as u64;
+        Ok(frames)
+    }
+    /// The clock moved on: the frames in which the transactions at some spots, at most as many as
+    /// it used ids, are sent again, save those that were sent as often as a limit allows. After
+    /// `NoMemory` the node is as before.
+    #[tactic(auto, unfolding(node_model::specs::Clocks::node_clocked))]
+    pub fn resend(
+        &mut self,
+        alloc: Global,
+        table: &Table,
+        spots: &[Spot],
+        limit: Option<u8>,
+    ) -> Result<List<(NodeId, Bytes)>, NoMemory>
+        requires light { model.work self.old < MAX_LOAD }
+        requires few { length spots.now ≤ self.old.ids }
+        requires small { AreSmall table.now }
+        ensures frames { IfOk result (λ frames. frames
+            ≡ model.frames_of_all self.old.links (posts_again limit table.now spots.now)) }
+        ensures ok { OnOk result (self.new
+            ≡ node_clocked (posts_again limit table.now spots.now) self.old) }
+        ensures err { OnErr result (self.new ≡ self.old) }
+    {
+        let frames = self.links.resend(alloc, table, spots, limit)?;
         self.inputs += 1;
         self.frames += frames.len() as u64;
         Ok(frames)

@@ -1,5 +1,5 @@
 -- A client, and what it does with what it is given (RFC 6940, 6.2 and 7.4).
-use Rattle.std.specs.Prelude.{ℕ, ◌+◌, ◌==◌, ◌&&◌, Bool, true, false, List, [], ◌∷◌, length, map, nat_le, Option, Some, None, is_some, unwrap_or, Result, Ok, Err, if◌then◌else◌}
+use Rattle.std.specs.Prelude.{ℕ, ◌+◌, ◌==◌, ◌&&◌, Bool, true, false, List, [], ◌∷◌, fold, length, map, nat_le, Option, Some, None, is_some, unwrap_or, Result, Ok, Err, if◌then◌else◌}
 use Rattle.std.specs.Option.{option_map_or, option_and_then}
 use Rattle.std.specs.Ordering.{nat_cmp}
 use Rattle.std.specs.FinMap.{FinMap, get, insert, remove, empty, len}
@@ -15,7 +15,7 @@ use Rattle.message_bodies.specs.declared.store_ans.StoreKindResponse.{StoreKindR
 use Rattle.message_bodies.specs.StoreAns.{store_ans_at}
 use Rattle.transaction_table.specs.declared.txn.Txn.{Txn}
 use Rattle.transaction_table.specs.declared.txn.Queued.{Queued}
-use Rattle.transaction_table.specs.Tables.{Txns, issued, outstanding, after_answer}
+use Rattle.transaction_table.specs.Tables.{Txns, issued, outstanding, after_answer, due_spots, renewed}
 use Rattle.node_messages.specs.declared.message.Message.{Message}
 use Rattle.node_messages.specs.declared.message.Message.TheVariants as messages
 use Rattle.node_messages.specs.Signed.{SignerWords}
@@ -30,9 +30,10 @@ use Rattle.node_model.specs.declared.notice.Told.{Told}
 use Rattle.node_model.specs.declared.notice.Told.TheVariants.{Stored, Fetched, Failed}
 use Rattle.node_model.specs.declared.notice.Notice.{Notice}
 use Rattle.node_model.specs.declared.notice.Notice.TheVariants as notices
-use Rattle.node_model.specs.declared.limits.TheConstants.{MAX_OUTSTANDING}
+use Rattle.node_model.specs.declared.limits.TheConstants.{MAX_OUTSTANDING, MAX_SENDS}
 use Rattle.node_model.specs.Links.{ack_to}
-use Rattle.node_model.specs.Nodes.{Node, Post, Step, Cause, Framed, Clocked, Commanded, new_node, me, work, counted, silent, frames_of, links_after, node_after}
+use Rattle.node_model.specs.Nodes.{Node, Post, Step, Cause, Framed, Clocked, Commanded, new_node, me, work, counted, silent, frames_of, frames_of_all, links_after, node_after}
+use Rattle.node_model.specs.Clocks.{posts_again, ids_over, node_clocked}
 use Rattle.node_model.specs.Heard.{Envelope, payload_in, heard_in, is_answer, message_in}
 use Rattle.node_model.specs.declared.course.AnswerCourse.{AnswerCourse}
 use Rattle.node_model.specs.declared.course.AnswerCourse.TheVariants.{Ignored, Passed, Mine}
@@ -211,8 +212,27 @@ unfoldable pub framed : SignerWords → ℕ → NodeId → List ℕ → Client �
 framed words now from bytes c =
     option_map_or (λ x. hears words now from x.0 x.1 c) (payload_in bytes) (idles c)
 
+-- the clock moved on: what is due is sent again, or ends where it was sent MAX_SENDS times, and then
+-- that is told
+unfoldable pub clocked : ℕ → Client → Step Client
+clocked now c =
+    let due = due_spots now c.txns in
+    let posts = posts_again (Some MAX_SENDS) c.txns due in
+    let ended = ids_over (Some MAX_SENDS) c.txns due in
+    record {
+      node = record {
+        node = node_clocked posts c.node;
+        txns = fold (renewed now (Some MAX_SENDS)) c.txns due;
+        questions = fold remove c.questions ended;
+      };
+      outputs = record {
+        frames = frames_of_all c.node.links posts;
+        notices = map notices.TimedOut ended;
+      };
+    }
+
 -- what an input makes of a client at a clock
 abbrev pub client_step : SignerWords → ℕ → Cause → Client → Step Client
 client_step words now (Framed from bytes) c = framed words now from bytes c
-client_step words now Clocked c = idles c
+client_step words now Clocked c = clocked now c
 client_step words now (Commanded command) c = commanded words now command c

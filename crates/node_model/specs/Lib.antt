@@ -1,5 +1,6 @@
 pub mod Links
 pub mod Nodes
+pub mod Clocks
 pub mod Heard
 pub mod Ways
 pub mod Courses

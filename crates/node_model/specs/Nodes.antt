@@ -1,5 +1,5 @@
 -- What peers and clients have in common, and what both do with a message that they send.
-use Rattle.std.specs.Prelude.{ℕ, ◌+◌, ◌*◌, ◌^◌, List, [], ◌∷◌, length, Option, Some, None}
+use Rattle.std.specs.Prelude.{ℕ, ◌+◌, ◌*◌, ◌^◌, List, [], ◌∷◌, ◌++◌, length, Option, Some, None}
 use Rattle.reload_ids.specs.declared.NodeId.{NodeId}
 use Rattle.reload_ids.specs.Ids.{overlay_id}
 use Rattle.data_models.specs.declared.config.Config.{Config}
@@ -100,3 +100,14 @@ node_after from sequence post n = record n {
   inputs = n.inputs + 1;
   frames = n.frames + 1 + length (frames_of n.links post);
 }
+
+-- the frames of messages that are sent one after the other
+unfoldable pub frames_of_all : Links → List Post → List Sent
+frames_of_all links [] = []
+frames_of_all links (p ∷ ps) =
+    frames_of links (Some p) ++ frames_of_all (links_after (Some p) links) ps
+
+-- the links once they are sent
+unfoldable pub links_after_all : List Post → Links → Links
+links_after_all [] links = links
+links_after_all (p ∷ ps) links = links_after_all ps (links_after (Some p) links)

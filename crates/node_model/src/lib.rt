@@ -13,7 +13,7 @@ mod question;
 pub use command::{Command, FetchCommand, StoreCommand};
 pub use course::{AnswerCourse, Course};
 pub use input::{Input, Outputs};
-pub use limits::{MAX_LOAD, MAX_OUTSTANDING, MAX_REQUEST, MAX_TTL, MAX_VIA};
+pub use limits::{MAX_LOAD, MAX_OUTSTANDING, MAX_REQUEST, MAX_SENDS, MAX_TTL, MAX_VIA};
 pub use notice::{Notice, Told};
 pub use peer_state::PeerState;
 pub use question::Question;

@@ -12,5 +12,9 @@ pub const MAX_REQUEST: u32 = 200_000;
 /// The most requests of one client that wait for answers.
 pub const MAX_OUTSTANDING: usize = 64;
 
+/// The most times that a client sends a request (RFC 6940, section 6.2.1): the first time, and then
+/// again each time that it is due.
+pub const MAX_SENDS: u8 = 5;
+
 /// A node with this load handles nothing more.
 pub const MAX_LOAD: u64 = 268_435_456;

@@ -46,4 +46,9 @@ pub enum Notice {
         id: u64,
         told: Told,
     },
+    /// A client's request was sent `MAX_SENDS` times without an answer, and isn't sent any more.
+    TimedOut {
+        /// The transaction id.
+        id: u64,
+    },
 }

@@ -1,5 +1,5 @@
 -- A request that is issued.
-use Rattle.std.proofs.Common.{◌≡◌, ℕ, ◌≤◌, Bool, cond, List, [], length, Option, Some, None, is_some, Result, IfOk, refl, sym, ap, subst, ◌∙◌}
+use Rattle.std.proofs.Common.{◌≡◌, ℕ, ◌≤◌, Bool, cond, List, [], length, Option, Some, None, is_some, Result, IfOk, refl, sym, ap, subst, ◌∙◌, arith}
 use Rattle.std.specs.Prelude.{unwrap_or, OnOk}
 use Rattle.std.specs.Option.{option_map}
 use Rattle.std.specs.Ordering.{nat_cmp}
@@ -54,6 +54,10 @@ small_some None x e s = absurd cc
 small_some (Some y) x e s = let same : x ≡ y = cc in
     subst (λ (z : List ℕ). length z ≤ MAX_MESSAGE) (sym same) s
 
+small_bytes : (o : Option (List ℕ)) → IsSmall o → length (unwrap_or o []) ≤ MAX_MESSAGE
+small_bytes None s = omega arith
+small_bytes (Some x) s = s
+
 -- what the client is then
 pub asked_node : (now : ℕ) (a : Asking) (m : Option (List ℕ)) (bytes : List ℕ) (n k : Node)
     (t u : Txns) (q r : FinMap nat_cmp Question) (c : Client) → client_of n t q ≡ c
@@ -83,13 +87,15 @@ asked_outputs now a m fs n t q c view em ef o eo =
 pub asked_holds : (now : ℕ) (a : Asking) (m : Option (List ℕ)) (bytes : List ℕ) (n k : Node)
     (t u : Txns) (q r : FinMap nat_cmp Question) → IsSound (client_of n t q) → a.id ≡ next_id n
     → k ≡ node_asking (posted a.peer m) n → u ≡ issued now (queued_of a.peer a.id bytes) t
-    → r ≡ insert q a.id a.question → IsSound (client_of k u r)
-asked_holds now a m bytes n k t u q r s e ek eu er =
+    → r ≡ insert q a.id a.question → bytes ≡ unwrap_or a.message [] → IsSmall a.message
+    → IsSound (client_of k u r)
+asked_holds now a m bytes n k t u q r s e ek eu er eb small =
     subst (λ (x : Node). IsSound (client_of x u r)) (sym ek)
     (subst (λ (x : Txns). IsSound (client_of (node_asking (posted a.peer m) n) x r)) (sym eu)
     (subst (λ (x : FinMap nat_cmp Question). IsSound (client_of (node_asking (posted a.peer m) n)
     (issued now (queued_of a.peer a.id bytes) t) x)) (sym er)
-    (asked_sound now (posted a.peer m) (queued_of a.peer a.id bytes) a.question (client_of n t q) s e)))
+    (asked_sound now (posted a.peer m) (queued_of a.peer a.id bytes) a.question (client_of n t q) s e
+    (subst (λ (x : List ℕ). length x ≤ MAX_MESSAGE) (sym eb) (small_bytes a.message small)))))
 
 -- a request that is taken back leaves all as it was
 pub taken_back : (now : ℕ) (a : Asking) (bytes : List ℕ) (n k : Node) (t u v : Txns)

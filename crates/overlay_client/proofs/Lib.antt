@@ -4,4 +4,5 @@ pub mod Sounds
 pub mod Made
 pub mod Signing
 pub mod Hears
+pub mod Clocks
 pub mod Asks

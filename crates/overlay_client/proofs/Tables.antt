@@ -17,7 +17,7 @@ use Rattle.transaction_table.specs.Outboxes.{message_of}
 use Rattle.transaction_table.specs.Tables.{Txns, Requests, issued, outstanding, spot_of, head_spot, request_spot, either_spot, after_answer, ended, txn_at, request_txn}
 
 -- there is nothing in no map
-none_in : {X : Type 0} (q : ℕ) (m : FinMap nat_cmp X) → m ≡ empty → get m q ≡ None
+pub none_in : {X : Type 0} (q : ℕ) (m : FinMap nat_cmp X) → m ≡ empty → get m q ≡ None
 none_in {X} q m e = ap (λ (n : FinMap nat_cmp X). get n q) e ∙ get-empty nat_cmp q
 
 -- without outboxes it stands among the requests

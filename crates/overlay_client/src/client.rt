@@ -25,8 +25,8 @@ use transaction_table::Table;
 ///                         ▼
 ///                   outstanding ──▶ its answer, from the peer that was asked, with its id, signed
 ///                         ▲   │     by a peer, of a body that answers the question ──▶ told, ended
-///                         └───┘
-///                    any other message
+///                         ├───┘ ──▶ due, after MAX_SENDS sends ──▶ told, ended
+///                    any other message, and due before that: it is sent again
 /// ```
 ///
 /// It drops every request, and passes answers on as every node does.
@@ -123,7 +123,7 @@ impl Client {
     {
         match input {
             Input::Frame { from, bytes } => self.framed(alloc, now, from, bytes, signer),
-            Input::Clock => Ok(self.idle(alloc)),
+            Input::Clock => self.clocked(alloc, now),
             Input::Command(command) => self.commanded(alloc, now, command, signer),
         }
     }

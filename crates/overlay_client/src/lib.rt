@@ -5,6 +5,7 @@
 mod answer;
 mod asking;
 mod client;
+mod clock;
 mod fetch;
 mod hearing;
 mod store;

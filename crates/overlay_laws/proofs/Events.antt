@@ -1,5 +1,5 @@
 -- Each event goes by the one map.
-use Rattle.std.proofs.Common.{◌≡◌, ℕ, zero, suc, ◌+◌, ◌-◌, ◌++◌, List, [], ◌∷◌, Bool, true, false, cond, Option, Some, None, refl, sym, ap, ◌∙◌, subst, append_assoc}
+use Rattle.std.proofs.Common.{◌≡◌, ℕ, zero, suc, ◌-◌, ◌++◌, List, [], ◌∷◌, Bool, true, false, cond, Option, Some, None, refl, sym, ap, ◌∙◌, subst, append_assoc}
 use Rattle.std.specs.Prelude.{position, slice_get}
 use Rattle.std.specs.Option.{option_map_or}
 use Rattle.std.specs.FinMap.{get}
@@ -12,15 +12,15 @@ use Rattle.storage_model.specs.Decisions.{Decision, IsLegalFrom}
 use Rattle.storage_model.specs.Laws.{map_from}
 use Rattle.storage_model.proofs.OnceLaw.{map_from-append}
 use Rattle.node_model.specs.declared.command.Command.{Command}
-use Rattle.node_model.specs.Nodes.{Cause, Framed, Commanded}
+use Rattle.node_model.specs.Nodes.{Cause, Framed, Clocked, Commanded}
 use Rattle.node_model.specs.Clients.{is_busy}
 use Rattle.run_model.specs.declared.flight.Flight.{Flight}
 use Rattle.run_model.specs.declared.flight.Fate.TheVariants.{Delivered, Lost}
 use Rattle.run_model.specs.declared.happening.Happening.TheVariants.{NoSuchFrame, UnknownNode, Busy}
-use Rattle.run_model.specs.Worlds.{World, Actor, APeer, AClient, Done, quiet, refused, then_on, acts, after_step, handled, node_of}
+use Rattle.run_model.specs.Worlds.{World, Actor, APeer, AClient, Done, quiet, refused, then_on, acts, after_step, handled, node_of, numbers_of, told_time}
 use Rattle.run_model.specs.declared.moves.Move.{Move}
 use Rattle.run_model.specs.declared.moves.Move.TheVariants.{Clock, Deliver, Lose, Drain, Ask}
-use Rattle.run_model.specs.Moves.{aimed, with_fate, is_waiting, is_hearing, flown, flown_at, is_frame, delivered, lost_at, lost, drained, is_asked, told_by, told, moved}
+use Rattle.run_model.specs.Moves.{aimed, with_fate, is_waiting, is_hearing, flown, flown_at, is_frame, delivered, lost_at, lost, drained, gone_on, clocked, is_asked, told_by, told, moved}
 use Rattle.run_model.specs.Runs.{Event, decision_in, world_after, happenings}
 use Rattle.overlay_laws.proofs.OneMap.{Holds, Goes, decided, holds_still, goes_on, goes_peer, goes_client}
 
@@ -133,6 +133,21 @@ unfolding drained
 goes_drained words zero m w h = goes_quiet m w h
 goes_drained words (suc n) m w h = goes_next words n m w (position is_waiting w.flights) h (λ k v g. goes_drained words n k v g)
 
+-- ---- the clock
+
+pub goes_told_time : (words : SignerWords) (ns : List ℕ) (m : Map) (w : World) → Holds m w → Goes m w (told_time words ns w)
+unfolding told_time
+goes_told_time words [] m w h = goes_quiet m w h
+goes_told_time words (n ∷ ns) m w h =
+    let first : Done = handled words n Clocked w in
+    goes_both m w first (told_time words ns) (goes_handled words n Clocked m w h) (λ k g. goes_told_time words ns k first.world g)
+
+goes_clocked : (words : SignerWords) (ms : ℕ) (m : Map) (w : World) → Holds m w → Goes m w (clocked words ms w)
+unfolding clocked
+goes_clocked words ms m w h =
+    let on : World = gone_on ms w in
+    goes_from m w on _ refl (goes_told_time words (numbers_of w) m on (holds_still m w on refl refl h))
+
 -- ---- requests
 
 goes_told_by : (words : SignerWords) (line client : ℕ) (command : Command) (m : Map) (w : World) (o : Option Actor) → Holds m w → Goes m w (told_by words line client command w o)
@@ -154,7 +169,7 @@ goes_told words line client peer command m w h =
 -- ---- events and runs
 
 pub goes_moved : (words : SignerWords) (line : ℕ) (move : Move) (m : Map) (w : World) → Holds m w → Goes m w (moved words line move w)
-goes_moved words line (Clock ms) m w h = goes_on m w (record w { clock = w.clock + ms }) refl refl h
+goes_moved words line (Clock ms) m w h = goes_clocked words ms m w h
 goes_moved words line (Deliver k) m w h = goes_delivered words line k m w h
 goes_moved words line (Lose k) m w h = goes_lost line k m w h
 goes_moved words line (Drain n) m w h = goes_drained words n m w h

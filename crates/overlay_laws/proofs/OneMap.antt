@@ -27,7 +27,7 @@ use Rattle.run_model.specs.declared.happening.Happening.TheVariants.{Tells}
 use Rattle.run_model.specs.Worlds.{World, Actor, APeer, AClient, Done, quiet, acts, after_step}
 use Rattle.run_model.specs.Runs.{decision_in}
 use Rattle.overlay_laws.proofs.Deeds.{Deed, Silent, Decides, acts_peer}
-use Rattle.overlay_laws.proofs.Tellings.{TellsAnswers, Nothing, Answer, tells_client}
+use Rattle.overlay_laws.proofs.Tellings.{TellsAnswers, Nothing, Answer, Ends, tells_client}
 
 -- the decisions among what happened
 abbrev pub decided : Config → List Happening → List Decision
@@ -195,9 +195,14 @@ other_found actors n x k q e =
     (λ (o : k ≢ n). sym (get-insert nat_cmp_total actors n (AClient x) k ∙ cond-false _ _ _ (key_other k n o)) ∙ e)
     (cases_eq k n)
 
+decided_ends : (config : Config) (n : ℕ) (ids : List ℕ) → decided config (map (Tells n) (map notices.TimedOut ids)) ≡ []
+decided_ends config n [] = refl
+decided_ends config n (id ∷ ids) = decided_ends config n ids
+
 pub decided_answers : (config : Config) (n : ℕ) (told : List Notice) → TellsAnswers told → decided config (map (Tells n) told) ≡ []
 decided_answers config n told (Nothing is) = rw is refl
 decided_answers config n told (Answer id what is) = rw is refl
+decided_answers config n told (Ends ids is) = rw is (decided_ends config n ids)
 
 pub goes_client : (words : SignerWords) (cause : Cause) (m : Map) (w : World) (n : ℕ) (c : Client) → Holds m w → Goes m w (after_step n w (acts words w.clock cause (AClient c)))
 unfolding after_step

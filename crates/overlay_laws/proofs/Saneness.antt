@@ -1,5 +1,5 @@
 -- Where all frames are bytes, what is decided makes sense.
-use Rattle.std.proofs.Common.{◌≡◌, ℕ, zero, suc, ◌+◌, ◌-◌, List, [], ◌∷◌, map, length, Bool, true, false, cond, Option, Some, None, refl, sym, ap, ◌∙◌, subst}
+use Rattle.std.proofs.Common.{◌≡◌, ℕ, zero, suc, ◌-◌, List, [], ◌∷◌, map, length, Bool, true, false, cond, Option, Some, None, refl, sym, ap, ◌∙◌, subst}
 use Rattle.std.specs.Prelude.{position, slice_get, slice_set}
 use Rattle.std.specs.Option.{option_map_or}
 use Rattle.std.specs.List.{AllByRecursion, list_any}
@@ -34,18 +34,19 @@ use Rattle.run_model.specs.declared.flight.Flight.{Flight}
 use Rattle.run_model.specs.declared.flight.Fate.{Fate}
 use Rattle.run_model.specs.declared.flight.Fate.TheVariants.{Delivered, Lost}
 use Rattle.run_model.specs.declared.happening.Happening.TheVariants.{Tells, NoSuchFrame, UnknownNode, Busy}
-use Rattle.run_model.specs.Worlds.{World, Actor, APeer, AClient, Done, quiet, refused, then_on, acts, after_step, node_of}
+use Rattle.run_model.specs.Worlds.{World, Actor, APeer, AClient, Done, quiet, refused, then_on, acts, after_step, node_of, numbers_of, told_time}
 use Rattle.run_model.specs.Worlds as worlds
 use Rattle.run_model.specs.declared.moves.Move.{Move}
 use Rattle.run_model.specs.declared.moves.Move.TheVariants.{Clock, Deliver, Lose, Drain, Ask}
-use Rattle.run_model.specs.Moves.{aimed, with_fate, is_waiting, is_hearing, flown, flown_at, is_frame, delivered, lost_at, lost, drained, is_asked, told_by, told, moved}
+use Rattle.run_model.specs.Moves.{aimed, with_fate, is_waiting, is_hearing, flown, flown_at, is_frame, delivered, lost_at, lost, drained, gone_on, is_asked, told_by, told, moved}
+use Rattle.run_model.specs.Moves as moves
 use Rattle.run_model.specs.Runs.{Event, decision_in, world_after, happenings}
 use Rattle.overlay_laws.specs.Bytes.{AreAllBytes}
 use Rattle.overlay_laws.proofs.Lists.{all_both, all_front}
 use Rattle.overlay_laws.proofs.OneMap.{Holds, decided, holds_still}
-use Rattle.overlay_laws.proofs.Events.{goes_flown_at, goes_moved}
+use Rattle.overlay_laws.proofs.Events.{goes_handled, goes_flown_at, goes_moved}
 use Rattle.overlay_laws.proofs.Sound.{HasModels, IsSane, IsRead, sane_message, read_in, payload_bytes}
-use Rattle.overlay_laws.proofs.Tellings.{TellsAnswers, Nothing, Answer, tells_client}
+use Rattle.overlay_laws.proofs.Tellings.{TellsAnswers, Nothing, Answer, Ends, tells_client}
 
 -- ---- a peer
 
@@ -53,6 +54,7 @@ use Rattle.overlay_laws.proofs.Tellings.{TellsAnswers, Nothing, Answer, tells_cl
 abbrev IsSaneNotice : (ℕ → DataModel) → Config → Notice → Type 0
 IsSaneNotice models config (notices.Decision now r origin id q answer acted) = IsSane models config q
 IsSaneNotice models config (notices.Answered id told) = Unit {0}
+IsSaneNotice models config (notices.TimedOut id) = Unit {0}
 
 abbrev AreSane : (ℕ → DataModel) → Config → List Notice → Type 0
 AreSane models config told = AllByRecursion (IsSaneNotice models config) told
@@ -140,6 +142,7 @@ sound_told models config n [] is has sane = tt
 sound_told models config n (notices.Decision now r origin id q answer acted ∷ told) is has sane =
     (record { config = is; kinds = has; keys = sane.0.keys; request = sane.0.sound }, sound_told models config n told is has sane.1)
 sound_told models config n (notices.Answered id what ∷ told) is has sane = sound_told models config n told is has sane.1
+sound_told models config n (notices.TimedOut id ∷ told) is has sane = sound_told models config n told is has sane.1
 
 -- ---- frames
 
@@ -192,9 +195,14 @@ sane_both models w first next config one two = record {
       (subst (λ (c : Config). AreSound models (decided c (next first.world).happened)) config (two.sound all)));
 }
 
+sane_ends : (models : ℕ → DataModel) (config : Config) (ids : List ℕ) → AreSane models config (map notices.TimedOut ids)
+sane_ends models config [] = tt
+sane_ends models config (id ∷ ids) = (tt, sane_ends models config ids)
+
 sane_answers : (models : ℕ → DataModel) (config : Config) (told : List Notice) → TellsAnswers told → AreSane models config told
 sane_answers models config told (Nothing is) = rw is tt
 sane_answers models config told (Answer id what is) = rw is (tt, tt)
+sane_answers models config told (Ends ids is) = rw is (sane_ends models config ids)
 
 -- what a node's step tells makes sense
 sane_step : (words : SignerWords) (models : ℕ → DataModel) (now : ℕ) (cause : Cause) (config : Config) (a : Actor) → IsByteCause cause → HasModels models config → ((p : Peer) → a ≡ APeer p → p.node.config ≡ config)
@@ -284,6 +292,22 @@ unfolding drained
 sane_drained words models zero m w h fit = sane_quiet models w w refl
 sane_drained words models (suc n) m w h fit = sane_next words models n m w (position is_waiting w.flights) h fit (λ k v g fits. sane_drained words models n k v g fits)
 
+sane_told_time : (words : SignerWords) (models : ℕ → DataModel) (ns : List ℕ) (m : Map) (w : World) → Holds m w → IsFit models w.config → Sane models w (told_time words ns w)
+unfolding told_time
+sane_told_time words models [] m w h fit = sane_quiet models w w refl
+sane_told_time words models (n ∷ ns) m w h fit =
+    let first : Done = worlds.handled words n Clocked w in
+    let g = goes_handled words n Clocked m w h in
+    sane_both models w first (told_time words ns) g.config (sane_node words models n Clocked m w h fit tt)
+    (sane_told_time words models ns (map_from m (decided w.config first.happened)) first.world g.holds (fit_still models w.config first.world.config g.config fit))
+
+sane_clocked : (words : SignerWords) (models : ℕ → DataModel) (ms : ℕ) (m : Map) (w : World) → Holds m w → IsFit models w.config → Sane models w (moves.clocked words ms w)
+unfolding moves.clocked
+sane_clocked words models ms m w h fit =
+    let on : World = gone_on ms w in
+    let s = sane_told_time words models (numbers_of w) m on (holds_still m w on refl refl h) fit in
+    record { back = s.back; sound = s.sound }
+
 sane_told_by : (words : SignerWords) (models : ℕ → DataModel) (line client : ℕ) (command : Command) (m : Map) (w : World) (o : Option Actor) → Holds m w → IsFit models w.config → Sane models w (told_by words line client command w o)
 sane_told_by words models line client command m w (Some (AClient c)) h fit =
     sane_choice models w (is_busy c) _ _ (sane_busy models w line) (sane_node words models client (Commanded command) m w h fit tt)
@@ -297,7 +321,7 @@ sane_asking words models line client command m w (Some id) h fit = sane_told_by 
 
 sane_moved : (words : SignerWords) (models : ℕ → DataModel) (line : ℕ) (move : Move) (m : Map) (w : World) → Holds m w → IsFit models w.config → Sane models w (moved words line move w)
 unfolding delivered lost lost_at told
-sane_moved words models line (Clock ms) m w h fit = sane_quiet models w (record w { clock = w.clock + ms }) refl
+sane_moved words models line (Clock ms) m w h fit = sane_clocked words models ms m w h fit
 sane_moved words models line (Deliver k) m w h fit = sane_choice models w (is_frame k w) _ _ (sane_flown_at words models (k - 1) m w h fit) (sane_no_frame models w line)
 sane_moved words models line (Lose k) m w h fit = sane_choice models w (is_frame k w) _ _ (sane_lost models (k - 1) w (slice_get w.flights (k - 1)) refl) (sane_no_frame models w line)
 sane_moved words models line (Drain n) m w h fit = sane_drained words models n m w h fit

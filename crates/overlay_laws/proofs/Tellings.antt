@@ -1,5 +1,5 @@
--- A client tells of answers alone.
-use Rattle.std.proofs.Common.{◌≡◌, ℕ, List, [], ◌∷◌, Bool, true, false, cond, Option, Some, None, refl}
+-- A client tells of answers and of requests that timed out, and of nothing else.
+use Rattle.std.proofs.Common.{◌≡◌, ℕ, List, [], ◌∷◌, map, Bool, true, false, cond, Option, Some, None, refl}
 use Rattle.std.specs.Option.{option_map_or}
 use Rattle.reload_ids.specs.declared.NodeId.{NodeId}
 use Rattle.node_messages.specs.Signed.{SignerWords}
@@ -12,12 +12,13 @@ use Rattle.node_model.specs.declared.notice.Told.{Told}
 use Rattle.node_model.specs.Nodes.{Cause, Framed, Clocked, Commanded}
 use Rattle.node_model.specs.Heard.{Envelope, payload_in, heard_in, is_answer}
 use Rattle.node_model.specs.Ways.{answer_course}
-use Rattle.node_model.specs.Clients.{Client, Reaction, is_busy, request_of, asks, idles, commanded, taken_from, sends, takes, by_course, reaction, reaction_to, hears, framed, client_step}
+use Rattle.node_model.specs.Clients.{Client, Reaction, is_busy, request_of, asks, idles, commanded, taken_from, sends, takes, by_course, reaction, reaction_to, hears, framed, clocked, client_step}
 
--- nothing is told, or one answer
+-- nothing is told, or one answer, or that requests timed out
 pub data TellsAnswers (told : List Notice) : Type 0 where
   Nothing : told ≡ [] → TellsAnswers told
   Answer : (id : ℕ) (what : Told) → told ≡ notices.Answered id what ∷ [] → TellsAnswers told
+  Ends : (ids : List ℕ) → told ≡ map notices.TimedOut ids → TellsAnswers told
 
 tells_taken : (c : Client) (now : ℕ) (from : NodeId) (id : ℕ) (o : Option Told) → TellsAnswers (option_map_or (takes c now from id) o (sends c None)).notices
 unfolding takes
@@ -60,7 +61,7 @@ tells_command words now command c =
     ]
 
 pub tells_client : (words : SignerWords) (now : ℕ) (cause : Cause) (c : Client) → TellsAnswers (client_step words now cause c).outputs.notices
-unfolding framed idles
+unfolding framed idles clocked
 tells_client words now (Framed from bytes) c = tells_payload words now from c (payload_in bytes)
-tells_client words now Clocked c = Nothing refl
+tells_client words now Clocked c = Ends _ refl
 tells_client words now (Commanded command) c = tells_command words now command c

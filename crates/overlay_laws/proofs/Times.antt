@@ -1,5 +1,5 @@
 -- The clock of a run: nodes tell decisions at it, and no event but the one for it moves it.
-use Rattle.std.proofs.Common.{◌≡◌, ℕ, zero, suc, ◌+◌, ◌-◌, ◌≤◌, List, [], ◌∷◌, map, Bool, true, false, cond, Option, Some, None, refl, sym, ◌∙◌, subst, arith}
+use Rattle.std.proofs.Common.{◌≡◌, ℕ, zero, suc, ◌+◌, ◌-◌, ◌≤◌, List, [], ◌∷◌, ◌++◌, map, Bool, true, false, cond, Option, Some, None, refl, sym, ap, ◌∙◌, subst, arith}
 use Rattle.std.specs.Prelude.{position, slice_get}
 use Rattle.std.specs.Option.{option_map_or}
 use Rattle.std.specs.FinMap.{get}
@@ -9,16 +9,16 @@ use Rattle.data_models.specs.declared.config.Config.{Config}
 use Rattle.node_messages.specs.Signed.{SignerWords}
 use Rattle.storage_model.specs.Decisions.{Decision}
 use Rattle.node_model.specs.declared.command.Command.{Command}
-use Rattle.node_model.specs.Nodes.{Step, Cause, Framed, Commanded}
-use Rattle.node_model.specs.Peers.{Peer, Reaction, peer_step, effect_at}
+use Rattle.node_model.specs.Nodes.{Step, Cause, Framed, Clocked, Commanded}
+use Rattle.node_model.specs.Peers.{Peer, Reaction, idles, peer_step, effect_at}
 use Rattle.node_model.specs.Clients.{is_busy, client_step}
 use Rattle.run_model.specs.declared.flight.Flight.{Flight}
 use Rattle.run_model.specs.declared.flight.Fate.TheVariants.{Delivered, Lost}
 use Rattle.run_model.specs.declared.happening.Happening.TheVariants.{Tells, NoSuchFrame, UnknownNode, Busy}
-use Rattle.run_model.specs.Worlds.{World, Actor, APeer, AClient, Done, quiet, refused, then_on, acts, after_step, handled, node_of}
+use Rattle.run_model.specs.Worlds.{World, Actor, APeer, AClient, Done, quiet, refused, then_on, acts, after_step, handled, node_of, numbers_of, told_time}
 use Rattle.run_model.specs.declared.moves.Move.{Move}
 use Rattle.run_model.specs.declared.moves.Move.TheVariants.{Clock, Deliver, Lose, Drain, Ask}
-use Rattle.run_model.specs.Moves.{aimed, with_fate, is_waiting, is_hearing, flown, flown_at, is_frame, delivered, lost_at, lost, drained, is_asked, told_by, told, moved}
+use Rattle.run_model.specs.Moves.{aimed, with_fate, is_waiting, is_hearing, flown, flown_at, is_frame, delivered, lost_at, lost, drained, gone_on, clocked, is_asked, told_by, told, moved}
 use Rattle.run_model.specs.Runs.{Event, decision_in, happenings}
 use Rattle.overlay_laws.proofs.Lists.{all_both}
 use Rattle.overlay_laws.proofs.Clocks.{AreAt, IsTimed, timed_none, timed-append}
@@ -119,6 +119,30 @@ unfolding drained
 stays_drained words zero w = stays_quiet w
 stays_drained words (suc n) w = stays_next words n w (position is_waiting w.flights) (λ v. stays_drained words n v)
 
+stays_told_time : (words : SignerWords) (ns : List ℕ) (w : World) → Stays w.clock (told_time words ns w)
+unfolding told_time
+stays_told_time words [] w = stays_quiet w
+stays_told_time words (n ∷ ns) w =
+    let first : Done = handled words n Clocked w in
+    stays_both w.clock first (told_time words ns) (stays_handled words n Clocked w) (stays_told_time words ns first.world)
+
+-- nothing is decided by a node that is told of the time
+none_decided : (words : SignerWords) (config : Config) (n : ℕ) (w : World) (o : Option Actor) → decided config (option_map_or (λ a. after_step n w (acts words w.clock Clocked a)) o (quiet w)).happened ≡ []
+unfolding after_step idles
+none_decided words config n w None = refl
+none_decided words config n w (Some (APeer p)) = refl
+none_decided words config n w (Some (AClient c)) =
+    decided_answers config n (client_step words w.clock Clocked c).outputs.notices (tells_client words w.clock Clocked c)
+
+none_told : (words : SignerWords) (config : Config) (ns : List ℕ) (w : World) → decided config (told_time words ns w).happened ≡ []
+unfolding told_time handled
+none_told words config [] w = refl
+none_told words config (n ∷ ns) w =
+    let first : Done = handled words n Clocked w in
+    filter_map-append (decision_in config) first.happened (told_time words ns first.world).happened
+    ∙ ap (λ (ds : List Decision). ds ++ decided config (told_time words ns first.world).happened) (none_decided words config n w (get w.actors n))
+    ∙ none_told words config ns first.world
+
 stays_told_by : (words : SignerWords) (line client : ℕ) (command : Command) (w : World) (o : Option Actor) → Stays w.clock (told_by words line client command w o)
 stays_told_by words line client command w (Some (AClient c)) =
     stays_if w.clock (is_busy c) _ _ (stays_busy w line) (stays_handled words client (Commanded command) w)
@@ -141,8 +165,13 @@ passes : (now : ℕ) (d : Done) → Stays now d → Passes now d
 passes now d s = record { later = omega (arith, s.same); times = s.times }
 
 passes_moved : (words : SignerWords) (line : ℕ) (move : Move) (w : World) → Passes w.clock (moved words line move w)
-unfolding delivered lost lost_at told
-passes_moved words line (Clock ms) w = record { later = omega arith; times = λ config. tt }
+unfolding clocked delivered lost lost_at told
+passes_moved words line (Clock ms) w =
+    let ns : List ℕ = numbers_of w in
+    let on : World = gone_on ms w in record {
+      later = omega (arith, (stays_told_time words ns on).same);
+      times = λ config. subst (AreAt w.clock) (sym (none_told words config ns on)) tt;
+    }
 passes_moved words line (Deliver k) w = passes w.clock _ (stays_if w.clock (is_frame k w) _ _ (stays_flown_at words (k - 1) w) (stays_no_frame w line))
 passes_moved words line (Lose k) w = passes w.clock _ (stays_if w.clock (is_frame k w) _ _ (stays_lost (k - 1) w (slice_get w.flights (k - 1))) (stays_no_frame w line))
 passes_moved words line (Drain n) w = passes w.clock _ (stays_drained words n w)
@@ -162,8 +191,9 @@ stays_slow now most d s = omega (arith, s.same)
 
 -- an event moves the clock on no more than it says
 pub moved_slowly : (words : SignerWords) (line most : ℕ) (move : Move) (w : World) → IsSlow most move → (moved words line move w).world.clock ≤ w.clock + most
-unfolding delivered lost lost_at told
-moved_slowly words line most (Clock ms) w slow = omega (arith, slow)
+unfolding clocked delivered lost lost_at told
+moved_slowly words line most (Clock ms) w slow =
+    omega (arith, slow, (stays_told_time words (numbers_of w) (gone_on ms w)).same)
 moved_slowly words line most (Deliver k) w slow = stays_slow w.clock most _ (stays_if w.clock (is_frame k w) _ _ (stays_flown_at words (k - 1) w) (stays_no_frame w line))
 moved_slowly words line most (Lose k) w slow = stays_slow w.clock most _ (stays_if w.clock (is_frame k w) _ _ (stays_lost (k - 1) w (slice_get w.flights (k - 1))) (stays_no_frame w line))
 moved_slowly words line most (Drain n) w slow = stays_slow w.clock most _ (stays_drained words n w)

@@ -3,7 +3,7 @@ use Rattle.std.proofs.Common.{ℕ, ◌++◌, List, [], ◌∷◌, true, false, c
 use Rattle.std.specs.Prelude.{All, Option, Some, None}
 use Rattle.std.specs.Option.{option_map_or}
 use Rattle.std.proofs.lemmas.List.{length-append}
-use Rattle.std.proofs.lemmas.List.Elements.{All-nil, All-cons}
+use Rattle.std.proofs.lemmas.List.Elements.{All-nil, All-cons, All-append}
 use Rattle.reload_ids.specs.declared.NodeId.{NodeId}
 use Rattle.wire_core.specs.Spelling.{number, vector}
 use Rattle.wire_core.specs.Laws.Bytes.{length-number}
@@ -11,7 +11,7 @@ use Rattle.link_framing.specs.Framing.{frame}
 use Rattle.node_messages.specs.Signed.{SignerWords}
 use Rattle.node_messages.specs.Making.{made}
 use Rattle.node_model.specs.Links.{Links, Sent, heard_from, mask_of, next_sequence, ack_to, payload_to}
-use Rattle.node_model.specs.Nodes.{Post, Cause, Framed, Clocked, Commanded, frames_of}
+use Rattle.node_model.specs.Nodes.{Post, Cause, Framed, Clocked, Commanded, frames_of, links_after, frames_of_all}
 use Rattle.node_model.specs.declared.command.Command.{Command}
 use Rattle.node_model.specs.Requests.{Request}
 use Rattle.node_model.specs.Peers as peers
@@ -40,6 +40,12 @@ post_some links (Some p) =
       | None ↦ All-nil HasBytes
       | Some message ↦ All-cons HasBytes (payload_to p.to message links) [] (payload_some p.to message links) (All-nil HasBytes)
     ]
+
+posts_some : (links : Links) (posts : List Post) → All HasBytes (frames_of_all links posts)
+unfolding frames_of_all
+posts_some links [] = All-nil HasBytes
+posts_some links (p ∷ ps) =
+    All-append HasBytes (frames_of links (Some p)) (frames_of_all (links_after (Some p) links) ps) (post_some links (Some p)) (posts_some (links_after (Some p) links) ps)
 
 -- ---- peers
 
@@ -104,9 +110,13 @@ client_commanded words now command c =
       | false ↦ client_asks words now (clients.request_of words c.node command) c
     ]
 
+client_clocked : (now : ℕ) (c : clients.Client) → All HasBytes (clients.clocked now c).outputs.frames
+unfolding clients.clocked
+client_clocked now c = posts_some c.node.links _
+
 client_some : (words : SignerWords) (now : ℕ) (cause : Cause) (c : clients.Client) → All HasBytes (clients.client_step words now cause c).outputs.frames
 client_some words now (Framed from bytes) c = client_framed words now from bytes c
-client_some words now Clocked c = client_idles c
+client_some words now Clocked c = client_clocked now c
 client_some words now (Commanded command) c = client_commanded words now command c
 
 -- ---- both

@@ -22,10 +22,10 @@ use Rattle.overlay_world.proofs.Lines.{more_lines, names_flown_at}
 
 -- ---- parts of a drain
 
-then_nothing : (d : Done) → then_on d quiet ≡ d
+pub then_nothing : (d : Done) → then_on d quiet ≡ d
 then_nothing d = ap (λ (l : List Happening). let e : Done = record { world = d.world; happened = l } in e) (append-nil d.happened)
 
-then_then : (first : Done) (next last : World → Done) → then_on first (λ w. then_on (next w) last) ≡ then_on (then_on first next) last
+pub then_then : (first : Done) (next last : World → Done) → then_on first (λ w. then_on (next w) last) ≡ then_on (then_on first next) last
 then_then first next last =
     let d = next first.world in
     let e = last d.world in
@@ -108,7 +108,7 @@ waits_then : (words : SignerWords) (k : ℕ) (before mid : Scene) (o : Option �
 waits_then words k before mid o went place = ap (λ (v : World). position is_waiting v.flights) (sym went.world) ∙ sym place
 
 -- a part of an event behind another one
-then_does : (d : Done) (next : World → Done) (before mid after : Scene) → Does d before mid → Does (next d.world) mid after → (next d.world).world.names ≡ d.world.names → Does (then_on d next) before after
+pub then_does : (d : Done) (next : World → Done) (before mid after : Scene) → Does d before mid → Does (next d.world) mid after → (next d.world).world.names ≡ d.world.names → Does (then_on d next) before after
 then_does d next before mid after first last named =
     let l = next d.world in
     record {

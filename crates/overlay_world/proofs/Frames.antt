@@ -55,17 +55,17 @@ frames_lost at w = lost_still at w (slice_get w.flights at) refl
 abbrev pub Adds : World → Done → Type 0
 Adds w d = (more : List AirFrame) × (frames_in d.world ≡ frames_in w ++ more)
 
-adds_none : (w v : World) → frames_in v ≡ frames_in w → Adds w (quiet v)
+pub adds_none : (w v : World) → frames_in v ≡ frames_in w → Adds w (quiet v)
 adds_none w v e = ([], e ∙ sym (append-nil (frames_in w)))
 
-adds_from : (w v : World) (d : Done) → frames_in v ≡ frames_in w → Adds v d → Adds w d
+pub adds_from : (w v : World) (d : Done) → frames_in v ≡ frames_in w → Adds v d → Adds w d
 adds_from w v d e h = (h.0, h.1 ∙ ap (λ l. l ++ h.0) e)
 
 adds_if : (w : World) (b : Bool) (d e : Done) → Adds w d → Adds w e → Adds w (cond b d e)
 adds_if w true d e first other = first
 adds_if w false d e first other = other
 
-adds_both : (w : World) (first : Done) (next : World → Done) → Adds w first → Adds first.world (next first.world) → Adds w (then_on first next)
+pub adds_both : (w : World) (first : Done) (next : World → Done) → Adds w first → Adds first.world (next first.world) → Adds w (then_on first next)
 adds_both w first next one two =
     (one.0 ++ two.0, two.1 ∙ ap (λ l. l ++ two.0) one.1 ∙ append_assoc (frames_in w) one.0 two.0)
 

@@ -10,6 +10,7 @@ pub mod Standings
 pub mod Flown
 pub mod Heard
 pub mod Drained
+pub mod Timed
 pub mod Told
 pub mod Stopping
 pub mod Goings

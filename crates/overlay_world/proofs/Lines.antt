@@ -53,7 +53,7 @@ unfolding after_step
 names_actor words cause w n None = refl
 names_actor words cause w n (Some a) = refl
 
-names_handled : (words : SignerWords) (n : ℕ) (cause : Cause) (w : World) → Names w (handled words n cause w)
+pub names_handled : (words : SignerWords) (n : ℕ) (cause : Cause) (w : World) → Names w (handled words n cause w)
 unfolding handled
 names_handled words n cause w = names_actor words cause w n (get w.actors n)
 

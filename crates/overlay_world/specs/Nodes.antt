@@ -1,5 +1,6 @@
 -- A node that does something, as the meaning of runs has it.
-use Rattle.std.specs.Prelude.{◌≡◌, ◌⊎◌, Option, Some, None, refl}
+use Rattle.std.specs.Prelude.{◌≡◌, ℕ, ◌<◌, ◌^◌, ◌⊎◌, List, Option, Some, None, refl}
+use Rattle.std.specs.List.{AllByRecursion}
 use Rattle.std.proofs.Common.{inl, inr}
 use Rattle.std.specs.Ordering.{nat_cmp}
 use Rattle.std.specs.FinMap as map
@@ -50,3 +51,7 @@ actor_code =
 -- nodes by number
 abbrev pub actors_code : Coded (map.FinMap nat_cmp Actor)
 actors_code = map.code coded_ℕ actor_code
+
+-- the keys of rows are numbers of nodes
+abbrev pub AreNumbers : List (ℕ × Actor) → Type 0
+AreNumbers rows = AllByRecursion (λ row. row.0 < 2 ^ 32) rows

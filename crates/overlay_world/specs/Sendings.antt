@@ -1,15 +1,16 @@
 -- What the frames of nodes come to in an air, and what stops a part of an event.
-use Rattle.std.specs.Prelude.{◌≡◌, ℕ, ◌+◌, ◌<◌, ◌≤◌, List, [], ◌∷◌, ◌++◌, length, map, Some}
+use Rattle.std.specs.Prelude.{◌≡◌, ℕ, ◌+◌, ◌<◌, ◌≤◌, List, [], ◌∷◌, ◌++◌, length, map, take, slice_get, Some}
 use Rattle.std.specs.FinMap.{get}
 use Rattle.reload_base.specs.declared.air.AirFrame.{AirFrame}
 use Rattle.reload_base.specs.Outside.{AirView, raised, size_of}
+use Rattle.node_messages.specs.Signed.{SignerWords}
 use Rattle.request_words.specs.declared.node.DeclaredNode.{DeclaredNode}
 use Rattle.node_model.specs.declared.limits.TheConstants.{MAX_LOAD}
 use Rattle.node_model.specs.Links.{Sent}
 use Rattle.run_model.specs.declared.limits.TheConstants.{MAX_AIR}
 use Rattle.run_model.specs.declared.flight.Fate.{Fate}
 use Rattle.run_model.specs.declared.flight.Fate.TheVariants.{Waiting}
-use Rattle.run_model.specs.Worlds.{World, flight_of}
+use Rattle.run_model.specs.Worlds.{World, flight_of, told_time}
 use Rattle.run_model.specs.Stops.{air_frame, load_of, hearer_at}
 use Rattle.overlay_world.specs.declared.fault.StepFault.{StepFault}
 use Rattle.overlay_world.specs.declared.fault.StepFault.TheVariants.{LinkFault, AirFull, NodeFull, NoMemory}
@@ -79,3 +80,9 @@ IsFullAt at w number =
 -- this node handled all that it may
 abbrev pub IsHeavy : ℕ → World → ℕ → Type 0
 IsHeavy number w n = (n ≡ number) × (MAX_LOAD ≤ load_of (get w.actors n))
+
+-- one of some nodes is to be told of the time, after those before it, and handled all that it may
+abbrev pub IsTellingFull : SignerWords → List ℕ → World → ℕ → Type 0
+IsTellingFull words ns w number =
+    (k : ℕ) × (slice_get ns k ≡ Some number)
+    × (MAX_LOAD ≤ load_of (get (told_time words (take k ns) w).world.actors number))

@@ -1,6 +1,7 @@
 //! The nodes of a world, by number.
 
 ghost use Rattle.std.specs.Prelude.{◌≡◌, ◌<◌, ◌^◌, Some, IfOk, IfErr, OnOk};
+ghost use Rattle.std.specs.Prelude as lists;
 ghost use Rattle.std.specs.List.{list_all};
 ghost use Rattle.std.specs.Option.{option_copied, option_map, option_map_or};
 ghost use Rattle.std.specs.FinMap as map;
@@ -10,6 +11,7 @@ ghost use Rattle.node_model.specs.Nodes.{cause_of};
 ghost use Rattle.run_model.specs.Worlds as model;
 ghost use Rattle.run_model.specs.Stops.{load_of};
 ghost use Rattle.overlay_world.specs.Declarations.{IsDeclared, AreDeclared, with_declared};
+ghost use Rattle.overlay_world.specs.Nodes.{AreNumbers};
 ghost use Rattle.overlay_world.specs.Sendings.{IsUnheard};
 
 use crate::actor::Actor;
@@ -36,7 +38,7 @@ impl Model for Actors {
     ghost use Rattle.std.specs.Ordering.{nat_cmp};
     ghost use Rattle.ordered_tables.specs.Places.{Rises};
     ghost use Rattle.run_model.specs.Worlds as model;
-    ghost use Rattle.overlay_world.specs.Nodes.{actors_code};
+    ghost use Rattle.overlay_world.specs.Nodes.{actors_code, AreNumbers};
 
     ghost Value = { map.FinMap nat_cmp model.Actor };
 
@@ -44,7 +46,7 @@ impl Model for Actors {
 
     ghost view = { λ a. map.from_sorted a.rows.items };
 
-    ghost invariant = { λ a. Rises a.rows.items };
+    ghost invariant = { λ a. Rises a.rows.items × AreNumbers a.rows.items };
 }
 
 impl Actors {
@@ -169,6 +171,13 @@ impl Actors {
         }
     }
 
+    /// The numbers of the nodes, rising.
+    pub fn numbers(&self, alloc: Global) -> Result<List<u32>, NoMemory>
+        ensures { IfOk result (λ numbers. numbers ≡ lists.map (λ a. a.0) (map.entries self.now)) }
+    {
+        numbers_in(alloc, self.rows.as_slice())
+    }
+
     /// Whether no peer comes or goes, and nothing that a peer sent waits for an answer.
     pub fn settled(&self) -> bool
         ensures { result ≡ list_all (λ a. model.is_still a.1) (map.entries self.now) }
@@ -201,6 +210,18 @@ fn handled<G: Signer>(
         return Err(StepFault::NodeFull(number));
     }
     Ok(actor.handle(alloc, now, input, signer)?)
+}
+
+/// The numbers of some nodes.
+fn numbers_in(alloc: Global, rows: &[(u128, Actor)]) -> Result<List<u32>, NoMemory>
+    requires { AreNumbers rows.now }
+    ensures { IfOk result (λ numbers. numbers ≡ lists.map (λ row. row.0) rows.now) }
+{
+    let mut numbers = List::new(alloc);
+    for row in rows {
+        numbers.push(row.0 as u32)?;
+    }
+    Ok(numbers)
 }
 
 /// Whether nothing of any node is under way.

@@ -3,20 +3,16 @@
 ghost use Rattle.std.specs.Prelude.{◌≡◌};
 ghost use Rattle.reload_base.specs.Outside.{AirView};
 ghost use Rattle.node_messages.specs.Signed.{words_of};
-ghost use Rattle.node_model.specs.Nodes.{Commanded};
 ghost use Rattle.run_model.specs.declared.moves.Move.TheVariants as events;
-ghost use Rattle.run_model.specs.Worlds as worlds;
 ghost use Rattle.run_model.specs.Moves as moves;
 ghost use Rattle.run_model.specs.Stops.{IsNodeFull};
 ghost use Rattle.overlay_world.specs.Standings.{world_in};
-ghost use Rattle.overlay_world.specs.Sendings.{IsHeavy};
 ghost use Rattle.overlay_world.specs.Steps.{asked_by};
 ghost use Rattle.overlay_world.specs.Parts.{scene_of, world_of, IsSound, Goes};
 
-use crate::acting::{act, is_asked, is_busy};
+use crate::acting::{is_asked, is_busy};
 use crate::fault::StepFault;
 use crate::refusing::refused;
-use crate::sending::put_out;
 use crate::world::World;
 use node_model::{Command, Input};
 use reload_base::{Air, Bytes};
@@ -42,40 +38,6 @@ fn aimed(command: Command, peer: NodeId) -> Command
 }
 
 impl World {
-    /// The node with a number is told to do something.
-    fn command<A: Air, G: Signer>(
-        &mut self,
-        alloc: Global,
-        number: u32,
-        command: Command,
-        air: &mut A,
-        signer: &G,
-        out: &mut Bytes,
-    ) -> Result<(), StepFault>
-        requires sound { IsSound (scene_of self.old (A.view air.old) out.old) }
-        ensures { let words = words_of G.certificate_of G.signature_of G.about_of G.verifies
-            signer.now
-            in let before = scene_of self.old (A.view air.old) out.old
-            in Goes (worlds.handled words number (Commanded command) (world_of before))
-            (IsHeavy number (world_of before)) before
-            (scene_of self.new (A.view air.new) out.new) result }
-    {
-        let input = Input::Command(command);
-        let outputs = act(alloc, &mut self.actors, number, self.clock, input, signer)?;
-        let Some(outputs) = outputs else {
-            return Ok(());
-        };
-        put_out(
-            alloc,
-            air,
-            &self.names,
-            &mut self.fates,
-            number,
-            outputs,
-            out,
-        )
-    }
-
     /// The Node-ID of the peer that a client asks, or why the event at a line is refused.
     #[tactic(auto, unfolding(crate::specs::Steps::asked_by))]
     fn asked_by(&self, line: u64, client: u32, peer: u32) -> Result<NodeId, Happening>
@@ -116,7 +78,10 @@ impl World {
             (scene_of self.new (A.view air.new) out.new) result }
     {
         match self.asked_by(line, client, peer) {
-            Ok(id) => self.command(alloc, client, aimed(command, id), air, signer, out),
+            Ok(id) => {
+                let input = Input::Command(aimed(command, id));
+                self.give(alloc, client, input, air, signer, out)
+            },
             Err(why) => refused(out, &self.names, why),
         }
     }

@@ -1,6 +1,5 @@
 //! What an event makes of a world.
 
-ghost use Rattle.std.specs.Prelude.{◌≡◌, ◌+◌, ◌<◌, ◌^◌};
 ghost use Rattle.node_messages.specs.Signed.{words_of};
 ghost use Rattle.overlay_world.specs.Standings.{world_in};
 ghost use Rattle.overlay_world.specs.Steps.{IsInTime};
@@ -14,14 +13,6 @@ use security_block::Signer;
 use std::alloc::Global;
 
 impl World {
-    /// The clock goes on by so many milliseconds.
-    fn go_on(&mut self, ms: u64)
-        requires { self.old.clock + ms < 2 ^ 62 }
-        ensures { self.new ≡ record self.old { clock = self.old.clock + ms } }
-    {
-        self.clock += ms;
-    }
-
     /// An event, at its line in a scenario: the world, its air, and the lines of what happens, each
     /// appended as it happens. Behind a fault, which is `NoMemory` wherever memory is missing, the
     /// world and the lines are only dropped.
@@ -43,10 +34,7 @@ impl World {
             (scene_of self.new (A.view air.new) out.new) result }
     {
         match what {
-            Move::Clock(ms) => {
-                self.go_on(ms);
-                Ok(())
-            }
+            Move::Clock(ms) => self.clock(alloc, ms, air, signer, out),
             Move::Deliver(k) => self.deliver(alloc, line, k, air, signer, out),
             Move::Lose(k) => self.lose(line, k, out),
             Move::Drain(n) => self.drain(alloc, n, air, signer, out),

@@ -34,6 +34,12 @@ impl TryCopy for u8 {
     }
 }
 
+impl TryCopy for u32 {
+    fn copy(&self, _alloc: Global) -> Result<u32, NoMemory> {
+        Ok(*self)
+    }
+}
+
 impl TryCopy for (u32, u64) {
     fn copy(&self, _alloc: Global) -> Result<(u32, u64), NoMemory> {
         Ok(*self)

@@ -16,7 +16,7 @@ use Rattle.run_model.specs.declared.flight.Fate.TheVariants.{Waiting, Delivered,
 use Rattle.run_model.specs.declared.moves.Move.{Move}
 use Rattle.run_model.specs.declared.moves.Move.TheVariants.{Clock, Deliver, Lose, Drain, Ask}
 use Rattle.run_model.specs.declared.happening.Happening.TheVariants.{NoSuchFrame, UnknownNode, Busy}
-use Rattle.run_model.specs.Worlds.{World, Actor, APeer, AClient, Done, quiet, refused, then_on, handled, node_of}
+use Rattle.run_model.specs.Worlds.{World, Actor, APeer, AClient, Done, quiet, refused, then_on, handled, node_of, numbers_of, told_time}
 
 -- ---- frames
 
@@ -102,6 +102,16 @@ told words line client peer command w =
     (refused w (UnknownNode line))
     else refused w (UnknownNode line)
 
+-- ---- the clock
+
+-- the clock goes on by so many milliseconds
+abbrev pub gone_on : ℕ → World → World
+gone_on ms w = record w { clock = w.clock + ms }
+
+-- the clock goes on, and each node is told of it, by rising number
+unfoldable pub clocked : SignerWords → ℕ → World → Done
+clocked words ms w = told_time words (numbers_of w) (gone_on ms w)
+
 -- ---- events
 
 -- a command to the peer with a Node-ID
@@ -111,7 +121,7 @@ aimed (commands.Fetch c) peer = commands.Fetch (record c { peer = peer })
 
 -- what the event of a line makes of a world
 abbrev pub moved : SignerWords → ℕ → Move → World → Done
-moved words line (Clock ms) w = quiet (record w { clock = w.clock + ms })
+moved words line (Clock ms) w = clocked words ms w
 moved words line (Deliver k) w = delivered words line k w
 moved words line (Lose k) w = lost line k w
 moved words line (Drain n) w = drained words n w

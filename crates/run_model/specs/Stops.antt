@@ -11,8 +11,8 @@ use Rattle.run_model.specs.declared.limits.TheConstants.{MAX_AIR}
 use Rattle.run_model.specs.declared.flight.Flight.{Flight}
 use Rattle.run_model.specs.declared.moves.Move.{Move}
 use Rattle.run_model.specs.declared.moves.Move.TheVariants.{Clock, Deliver, Lose, Drain, Ask}
-use Rattle.run_model.specs.Worlds.{World, Actor, APeer, AClient, bytes_in}
-use Rattle.run_model.specs.Moves.{is_waiting, is_hearing, is_frame, is_asked, drained}
+use Rattle.run_model.specs.Worlds.{World, Actor, APeer, AClient, numbers_of, told_time, bytes_in}
+use Rattle.run_model.specs.Moves.{is_waiting, is_hearing, is_frame, is_asked, drained, gone_on}
 
 -- a frame, as what carries it has it
 abbrev pub air_frame : Flight → AirFrame
@@ -39,7 +39,7 @@ hearer_at at w = option_and_then
     (λ f. if is_hearing (get w.actors f.hearer) then Some f.hearer else None)
     (slice_get w.flights at)
 
--- the node that an event has handle something next, if it does
+-- the node that an event other than a move of the clock has handle something next, if it does
 abbrev pub next_actor : Move → World → Option ℕ
 next_actor (Clock ms) w = None
 next_actor (Deliver k) w = if is_frame k w then hearer_at (k - 1) w else None
@@ -53,9 +53,14 @@ abbrev pub times_of : Move → ℕ
 times_of (Drain n) = n
 times_of _ = 1
 
--- the node with a number is to handle something in an event, after as many frames of a drain as
--- there were before, and has handled all that it may
+-- the node with a number is to handle something in an event, and has handled all that it may: it is
+-- to be told of the time, after the nodes before it, or it is to handle something else, after as many
+-- frames of a drain as there were before
 abbrev pub IsNodeFull : SignerWords → Move → World → ℕ → Type 0
+IsNodeFull words (Clock ms) w number =
+    let before : ℕ → World = λ k. (told_time words (take k (numbers_of w)) (gone_on ms w)).world in
+    (k : ℕ) × (slice_get (numbers_of w) k ≡ Some number)
+    × (MAX_LOAD ≤ load_of (get (before k).actors number))
 IsNodeFull words move w number =
     (k : ℕ) × (k < times_of move)
     × (next_actor move (drained words k w).world ≡ Some number)

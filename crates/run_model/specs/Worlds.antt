@@ -16,7 +16,7 @@ use Rattle.node_messages.specs.Signed.{SignerWords}
 use Rattle.node_model.specs.declared.peer_state.PeerState.{PeerState}
 use Rattle.node_model.specs.declared.peer_state.PeerState.TheVariants as states
 use Rattle.node_model.specs.Links.{Sent}
-use Rattle.node_model.specs.Nodes.{Step, Cause}
+use Rattle.node_model.specs.Nodes.{Step, Cause, Clocked}
 use Rattle.node_model.specs.Peers.{Peer, Member, state_of, new_peer, peer_step}
 use Rattle.node_model.specs.Peers as peers
 use Rattle.node_model.specs.Clients.{Client, new_client, client_step}
@@ -153,6 +153,15 @@ unfoldable pub handled : SignerWords → ℕ → Cause → World → Done
 handled words number cause w =
     option_map_or (λ a. after_step number w (acts words w.clock cause a)) (get w.actors number)
     (quiet w)
+
+-- the numbers of the nodes, rising
+unfoldable pub numbers_of : World → List ℕ
+numbers_of w = map (λ a. a.0) (entries w.actors)
+
+-- nodes are told of the time, one after the other
+unfoldable pub told_time : SignerWords → List ℕ → World → Done
+told_time words [] w = quiet w
+told_time words (n ∷ ns) w = then_on (handled words n Clocked w) (told_time words ns)
 
 -- ---- settled
 

@@ -5,7 +5,7 @@ use node_model::Command;
 /// What moves a world (this profile).
 #[derive(Debug, Drop)]
 pub enum Move {
-    /// The clock goes on by so many milliseconds.
+    /// The clock goes on by so many milliseconds, and each node is told of it, by rising number.
     Clock(u64),
     /// The frame with this number, counted from 1, is delivered, whatever became of it before.
     Deliver(u64),

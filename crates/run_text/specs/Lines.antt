@@ -14,7 +14,7 @@ use Rattle.transcript_text.specs.Words.{counter_text}
 use Rattle.node_model.specs.declared.notice.Told.{Told}
 use Rattle.node_model.specs.declared.notice.Told.TheVariants.{Stored, Fetched, Failed}
 use Rattle.node_model.specs.declared.notice.Notice.{Notice}
-use Rattle.node_model.specs.declared.notice.Notice.TheVariants.{Decision, Answered}
+use Rattle.node_model.specs.declared.notice.Notice.TheVariants.{Decision, Answered, TimedOut}
 use Rattle.run_model.specs.declared.happening.Happening.{Happening}
 use Rattle.run_model.specs.declared.happening.Happening.TheVariants.{Tells, NoSuchFrame, UnknownNode, Busy}
 
@@ -31,11 +31,17 @@ told_text (Failed code counters) =
 unfoldable pub answer_line : ℕ → Told → List ℕ
 answer_line id told = codes "answer" ++ spaced (transaction_text id) ++ told_text told
 
--- what the node with a number tells: decide P T RES REQUEST -> ANSWER, or answer H.L ANSWER
+-- timeout H.L
+unfoldable pub timeout_line : ℕ → List ℕ
+timeout_line id = codes "timeout" ++ spaced (transaction_text id)
+
+-- what the node with a number tells: decide P T RES REQUEST -> ANSWER, answer H.L ANSWER, or
+-- timeout H.L
 unfoldable pub notice_line : List DeclaredNode → ℕ → Notice → List ℕ
 notice_line names number (Decision time resource origin id asked answer acted) =
     decided_line names number time resource.0 origin.0 id asked answer
 notice_line names number (Answered id told) = answer_line id told
+notice_line names number (TimedOut id) = timeout_line id
 
 -- refused L WORD
 unfoldable pub refused_line : ℕ → List ℕ → List ℕ

@@ -1,4 +1,5 @@
-//! What happens in a run: decisions, answers that clients take, and events that are refused.
+//! What happens in a run: decisions, answers that clients take, requests that time out, and events
+//! that are refused.
 
 ghost use Rattle.std.specs.Prelude.{◌≡◌, ◌++◌, codes};
 ghost use Rattle.std.specs.List.{flat_map};
@@ -6,7 +7,7 @@ ghost use Rattle.std.specs.Fmt.{decimal};
 ghost use Rattle.text_words.specs.Codec.{Appended, AppendedSome};
 ghost use Rattle.text_words.specs.Lines.{ended, spaced, spaced_by};
 ghost use Rattle.transcript_text.specs.Words.{counter_text};
-ghost use Rattle.run_text.specs.Lines.{answer_line, ended_by, happening_line, no_such_frame, notice_line, refused_line, told_text, unknown_node};
+ghost use Rattle.run_text.specs.Lines.{answer_line, ended_by, happening_line, no_such_frame, notice_line, refused_line, timeout_line, told_text, unknown_node};
 
 use node_model::{Notice, Told};
 use reload_base::{Bytes, NoMemory};
@@ -57,6 +58,16 @@ fn put_answer(out: &mut Bytes, id: u64, told: &Told) -> Result<(), NoMemory>
     out.extend(b"\n")
 }
 
+// Appends timeout H.L.
+#[tactic(auto, unfolding(crate::specs::Lines::timeout_line))]
+fn put_timeout(out: &mut Bytes, id: u64) -> Result<(), NoMemory>
+    ensures { AppendedSome out.old out.new (ended (timeout_line id)) result }
+{
+    out.extend(b"timeout ")?;
+    put_transaction(out, id)?;
+    out.extend(b"\n")
+}
+
 // Appends what the node with a number tells.
 #[tactic(auto, unfolding(crate::specs::Lines::notice_line))]
 fn put_notice(
@@ -90,6 +101,7 @@ fn put_notice(
             put_decide_line(out, names, &line)
         }
         Notice::Answered { id, told } => put_answer(out, *id, told),
+        Notice::TimedOut { id } => put_timeout(out, *id),
     }
 }
 
@@ -135,9 +147,9 @@ fn put_line(out: &mut Bytes, names: &[DeclaredNode], happening: &Happening) -> R
     }
 }
 
-/// Appends a line for what happens: `decide P T RES REQUEST -> ANSWER`, `answer H.L ANSWER`, or
-/// `refused L WORD`, where WORD is `no-such-frame`, `unknown-node` or `busy`. Nodes have the numbers
-/// of their names; one without a name is `?`.
+/// Appends a line for what happens: `decide P T RES REQUEST -> ANSWER`, `answer H.L ANSWER`,
+/// `timeout H.L`, or `refused L WORD`, where WORD is `no-such-frame`, `unknown-node` or `busy`. Nodes
+/// have the numbers of their names; one without a name is `?`.
 pub fn put_happening(
     out: &mut Bytes,
     names: &[DeclaredNode],

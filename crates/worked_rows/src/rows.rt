@@ -46,6 +46,56 @@ const KEPT_ANSWER_AGAIN: &str =
     answer 2.4 ok 256:3\n\
     end frames=19 bytes=2538 clock=0 settled=yes\n";
 
+// A Fetch is lost, sent four times again, and times out; then what was sent again comes to the peer.
+const SENT_FIVE_TIMES: &str = "fetch 2 1 @abc 256\n\
+    lose 1\n\
+    clock 3000\n\
+    clock 3000\n\
+    clock 3000\n\
+    clock 3000\n\
+    clock 3000\n\
+    drain 9\n";
+
+const TIMED_OUT: &str = "timeout 2.1\n\
+    decide 1 15000 a9993e364706816aba3e25717850c26c fetch 2 2.1 max=0 256/0 -> kind=256/0 -:0:0:-\n\
+    decide 1 15000 a9993e364706816aba3e25717850c26c fetch 2 2.1 max=0 256/0 -> kind=256/0 -:0:0:-\n\
+    decide 1 15000 a9993e364706816aba3e25717850c26c fetch 2 2.1 max=0 256/0 -> kind=256/0 -:0:0:-\n\
+    decide 1 15000 a9993e364706816aba3e25717850c26c fetch 2 2.1 max=0 256/0 -> kind=256/0 -:0:0:-\n\
+    end frames=15 bytes=2262 clock=15000 settled=yes\n";
+
+// It is sent again at 3,000 ms and not before, and once more before the answer comes.
+const SENT_AGAIN: &str = "fetch 2 1 @abc 256\n\
+    lose 1\n\
+    clock 2999\n\
+    clock 1\n\
+    deliver 2\n\
+    clock 3000\n\
+    drain 9\n\
+    clock 60000\n";
+
+const ANSWERED_ONCE: &str =
+    "decide 1 3000 a9993e364706816aba3e25717850c26c fetch 2 2.1 max=0 256/0 -> kind=256/0 -:0:0:-\n\
+    answer 2.1 kind=256/0 -:0:0:-\n\
+    decide 1 6000 a9993e364706816aba3e25717850c26c fetch 2 2.1 max=0 256/0 -> kind=256/0 -:0:0:-\n\
+    end frames=9 bytes=1260 clock=66000 settled=yes\n";
+
+// Two requests time out in one move of the clock.
+const BOTH_LOST: &str = "fetch 2 1 @abc 256\n\
+    clock 1\n\
+    fetch 2 1 @test 256\n\
+    lose 1\n\
+    lose 2\n\
+    clock 3000\n\
+    clock 3000\n\
+    clock 3000\n\
+    clock 3000\n\
+    clock 3000\n\
+    clock 3000\n";
+
+const BOTH_TIMED_OUT: &str = "timeout 2.1\n\
+    timeout 2.2\n\
+    end frames=10 bytes=2400 clock=18001 settled=yes\n";
+
 #[test]
 fn scenarios_have_their_transcripts(rt: HostRuntime) -> Result<(), Fail> {
     let rows = [
@@ -53,6 +103,9 @@ fn scenarios_have_their_transcripts(rt: HostRuntime) -> Result<(), Fail> {
         (THREE_DELIVERIES, ACTS_ONCE),
         (TWO_OF_ONE_TIME, SECOND_TOO_OLD),
         (OUT_OF_ORDER, KEPT_ANSWER_AGAIN),
+        (SENT_FIVE_TIMES, TIMED_OUT),
+        (SENT_AGAIN, ANSWERED_ONCE),
+        (BOTH_LOST, BOTH_TIMED_OUT),
     ];
     for (events, lines) in rows {
         let text = joined(rt.alloc(), &[DECLARATIONS, events])?;

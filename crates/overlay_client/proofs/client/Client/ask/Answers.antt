@@ -36,6 +36,7 @@ invariant_of-self-in-Ok c =
     c.note.new.questions c.self.invariant
     (c.requires.next ∙ sym (ap (λ (x : Client). next_id x.node) c.self.view_is))
     c.in-Ok.ensures.ok c.in_ok-note.ensures.ok c.in_ok-note.ensures.asked
+    c.bytes_or_none-bytes.ensures c.requires.small
 
 pub returns-in-Ok-clause-ok : goal.returns-in-Ok-clause-ok
 returns-in-Ok-clause-ok c =

@@ -8,4 +8,4 @@ use Rattle.overlay_world.proofs.actors.Actors.settled.Goals as goal
 pub returns : goal.returns
 returns c =
     c.all_still.ensures
-    ∙ ap (list_all (λ a. is_still a.1)) (sym (entries-from_sorted nat_cmp c.self.inside.rows.items c.self.invariant) ∙ ap entries c.self.view_is)
+    ∙ ap (list_all (λ a. is_still a.1)) (sym (entries-from_sorted nat_cmp c.self.inside.rows.items c.self.invariant.0) ∙ ap entries c.self.view_is)

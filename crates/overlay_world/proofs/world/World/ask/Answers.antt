@@ -17,10 +17,10 @@ use Rattle.overlay_world.proofs.world.World.ask.Goals as goal
 
 pub returns-in-Ok : goal.returns-in-Ok
 returns-in-Ok g c =
-    let commanded = subst (λ (x : Command). Goes (handled (words_of g.G.Signer.certificate_of g.G.Signer.signature_of g.G.Signer.about_of g.G.Signer.verifies c.args.signer.now) c.args.client (Commanded x) (world_in c.args.self.now (g.A.Air.view c.args.air.now))) (IsHeavy c.args.client (world_in c.args.self.now (g.A.Air.view c.args.air.now))) (scene_of c.args.self.now (g.A.Air.view c.args.air.now) c.args.out.now) (scene_of c.command.new.self (g.A.Air.view c.command.new.air) c.command.new.out) c.command.result) c.aimed.ensures c.command.ensures in
-    goes_as (handled (words_of g.G.Signer.certificate_of g.G.Signer.signature_of g.G.Signer.about_of g.G.Signer.verifies c.args.signer.now) c.args.client (Commanded (aimed c.args.command c.in-Ok.id)) (world_in c.args.self.now (g.A.Air.view c.args.air.now))) (told (words_of g.G.Signer.certificate_of g.G.Signer.signature_of g.G.Signer.about_of g.G.Signer.verifies c.args.signer.now) c.args.line c.args.client c.args.peer (aimed c.args.command) (world_in c.args.self.now (g.A.Air.view c.args.air.now))) (IsHeavy c.args.client (world_in c.args.self.now (g.A.Air.view c.args.air.now))) (IsNodeFull (words_of g.G.Signer.certificate_of g.G.Signer.signature_of g.G.Signer.about_of g.G.Signer.verifies c.args.signer.now) (Ask c.args.client c.args.peer c.args.command) (world_in c.args.self.now (g.A.Air.view c.args.air.now))) (scene_of c.args.self.now (g.A.Air.view c.args.air.now) c.args.out.now) (scene_of c.command.new.self (g.A.Air.view c.command.new.air) c.command.new.out) c.command.result
+    let commanded = subst (λ (x : Command). Goes (handled (words_of g.G.Signer.certificate_of g.G.Signer.signature_of g.G.Signer.about_of g.G.Signer.verifies c.args.signer.now) c.args.client (Commanded x) (world_in c.args.self.now (g.A.Air.view c.args.air.now))) (IsHeavy c.args.client (world_in c.args.self.now (g.A.Air.view c.args.air.now))) (scene_of c.args.self.now (g.A.Air.view c.args.air.now) c.args.out.now) (scene_of c.give.new.self (g.A.Air.view c.give.new.air) c.give.new.out) c.give.result) c.aimed.ensures c.give.ensures in
+    goes_as (handled (words_of g.G.Signer.certificate_of g.G.Signer.signature_of g.G.Signer.about_of g.G.Signer.verifies c.args.signer.now) c.args.client (Commanded (aimed c.args.command c.in-Ok.id)) (world_in c.args.self.now (g.A.Air.view c.args.air.now))) (told (words_of g.G.Signer.certificate_of g.G.Signer.signature_of g.G.Signer.about_of g.G.Signer.verifies c.args.signer.now) c.args.line c.args.client c.args.peer (aimed c.args.command) (world_in c.args.self.now (g.A.Air.view c.args.air.now))) (IsHeavy c.args.client (world_in c.args.self.now (g.A.Air.view c.args.air.now))) (IsNodeFull (words_of g.G.Signer.certificate_of g.G.Signer.signature_of g.G.Signer.about_of g.G.Signer.verifies c.args.signer.now) (Ask c.args.client c.args.peer c.args.command) (world_in c.args.self.now (g.A.Air.view c.args.air.now))) (scene_of c.args.self.now (g.A.Air.view c.args.air.now) c.args.out.now) (scene_of c.give.new.self (g.A.Air.view c.give.new.air) c.give.new.out) c.give.result
     (sym (told_ok (words_of g.G.Signer.certificate_of g.G.Signer.signature_of g.G.Signer.about_of g.G.Signer.verifies c.args.signer.now) c.args.line c.args.client c.args.peer (aimed c.args.command) (world_in c.args.self.now (g.A.Air.view c.args.air.now)) c.in-Ok.id (sym (c.in-Ok.ensures (g.A.Air.view c.args.air.now)))))
-    (λ e h. ask_halts (words_of g.G.Signer.certificate_of g.G.Signer.signature_of g.G.Signer.about_of g.G.Signer.verifies c.args.signer.now) c.args.line c.args.client c.args.peer c.args.command (world_in c.args.self.now (g.A.Air.view c.args.air.now)) c.in-Ok.id (g.A.Air.view c.args.air.now) (g.A.Air.view c.command.new.air) e (sym (c.in-Ok.ensures (g.A.Air.view c.args.air.now))) h) commanded
+    (λ e h. ask_halts (words_of g.G.Signer.certificate_of g.G.Signer.signature_of g.G.Signer.about_of g.G.Signer.verifies c.args.signer.now) c.args.line c.args.client c.args.peer c.args.command (world_in c.args.self.now (g.A.Air.view c.args.air.now)) c.in-Ok.id (g.A.Air.view c.args.air.now) (g.A.Air.view c.give.new.air) e (sym (c.in-Ok.ensures (g.A.Air.view c.args.air.now))) h) commanded
 
 pub returns-in-Err : goal.returns-in-Err
 returns-in-Err g c =

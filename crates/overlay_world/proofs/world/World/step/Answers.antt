@@ -1,24 +1,16 @@
-use Rattle.std.proofs.Common.{◌+◌, refl, sym, subst}
 use Rattle.node_messages.specs.Signed.{words_of}
-use Rattle.run_model.specs.declared.moves.Move.TheVariants.{Deliver, Lose, Drain, Ask}
-use Rattle.run_model.specs.Worlds.{World, quiet}
+use Rattle.run_model.specs.declared.moves.Move.TheVariants.{Clock, Deliver, Lose, Drain, Ask}
 use Rattle.run_model.specs.Moves.{lost}
 use Rattle.run_model.specs.Stops.{IsNodeFull}
-use Rattle.overlay_world.specs.Standings.{Standing, world_in}
+use Rattle.overlay_world.specs.Standings.{world_in}
 use Rattle.overlay_world.specs.Sendings.{IsNone}
-use Rattle.overlay_world.specs.Parts.{scene_of, Does}
-use Rattle.overlay_world.proofs.Frames.{frames_same}
-use Rattle.overlay_world.proofs.Flown.{quiet_does}
+use Rattle.overlay_world.specs.Parts.{scene_of}
 use Rattle.overlay_world.proofs.Goings.{goes_wider, steps}
 use Rattle.overlay_world.proofs.world.World.step.Goals as goal
 
 pub returns-in-Clock : goal.returns-in-Clock
 returns-in-Clock g c =
-    let s = c.args.self.now in
-    let next : Standing = record s { clock = s.clock + c.in-Clock.ms } in
-    let w : World = world_in next (g.A.Air.view c.args.air.now) in
-    rw c.in-Clock.is (subst (λ (n : Standing). Does (quiet w) (scene_of s (g.A.Air.view c.args.air.now) c.args.out.now) (scene_of n (g.A.Air.view c.args.air.now) c.args.out.now)) (sym c.go_on.ensures)
-    (quiet_does (quiet w) s next (g.A.Air.view c.args.air.now) c.args.out.now refl (frames_same (world_in s (g.A.Air.view c.args.air.now)) w refl) c.requires.sound))
+    rw c.in-Clock.is (steps (words_of g.G.Signer.certificate_of g.G.Signer.signature_of g.G.Signer.about_of g.G.Signer.verifies c.args.signer.now) c.args.line (Clock c.in-Clock.ms) (scene_of c.args.self.now (g.A.Air.view c.args.air.now) c.args.out.now) (scene_of c.clock.new.self (g.A.Air.view c.clock.new.air) c.clock.new.out) c.clock.result c.clock.ensures)
 
 pub returns-in-Deliver : goal.returns-in-Deliver
 returns-in-Deliver g c =
