@@ -8,7 +8,7 @@ use Rattle.std.specs.FinMap.{FinMap, get, insert, remove, empty, get-insert, get
 use Rattle.transaction_table.specs.declared.outbox.Message.{Message}
 use Rattle.transaction_table.specs.declared.outbox.Outbox.{Outbox}
 use Rattle.transaction_table.specs.declared.outbox.Request.{Request}
-use Rattle.transaction_table.specs.Outboxes.{opened, behind, next_of, replaced, changed}
+use Rattle.transaction_table.specs.Outboxes.{HasLost, opened, behind, next_of, replaced, changed}
 use Rattle.transaction_table.specs.Tables.{Txns, Outboxes, Requests, messages, HasNot, AreDistinct, IsApart, AreApart, IsNew}
 use Rattle.transaction_table.proofs.NumberMaps.{equal_of}
 
@@ -58,6 +58,14 @@ all-push P (x ∷ ms) m h p = (h.0, all-push P ms m h.1 p)
 distinct_push : (ms : List Message) (m : Message) → AreDistinct ms → AllByRecursion (λ n. n.id ≡ m.id → ⊥) ms → AreDistinct (ms ++ m ∷ [])
 distinct_push [] m d h = (tt, tt)
 distinct_push (x ∷ ms) m d h = (all-push (λ n. n.id ≡ x.id → ⊥) ms m d.0 (λ e. h.0 (sym e)), distinct_push ms m d.1 h.1)
+
+pub all-front : (P : Message → Type 0) (ms : List Message) (m : Message) → AllByRecursion P (ms ++ m ∷ []) → AllByRecursion P ms
+all-front P [] m h = tt
+all-front P (x ∷ ms) m h = (h.0, all-front P ms m h.1)
+
+distinct_front : (ms : List Message) (m : Message) → AreDistinct (ms ++ m ∷ []) → AreDistinct ms
+distinct_front [] m d = tt
+distinct_front (x ∷ ms) m d = (all-front (λ n. n.id ≡ x.id → ⊥) ms m d.0, distinct_front ms m d.1)
 
 -- the empty table
 pub apart_empty : AreApart (record { outboxes = empty; issued = empty })
@@ -118,6 +126,16 @@ module _ (t : Txns) (a : AreApart t) where
 pub apart_behind : (m : Message) (o : Outbox) (rs : Requests) → IsApart rs o → HasNot m.id o → get rs m.id ≡ None → IsApart rs (behind m o)
 apart_behind m o rs h n g =
     (distinct_push (o.head ∷ o.waiting) m h.0 n, all-push (λ m. get rs m.id ≡ None) (o.head ∷ o.waiting) m h.1 g)
+
+-- the others before the last message
+pub apart_before : (m : Message) (o : Outbox) (rs : Requests) → IsApart rs (behind m o) → IsApart rs o
+apart_before m o rs h =
+    (distinct_front (o.head ∷ o.waiting) m h.0, all-front (λ m. get rs m.id ≡ None) (o.head ∷ o.waiting) m h.1)
+
+-- an outbox whose last message is taken out
+pub apart_lost : (t : Txns) → AreApart t → (m : Message) (k : ℕ) (os : Outboxes) → HasLost m k t.outboxes os → AreApart (record { outboxes = os; issued = t.issued })
+apart_lost t a m k os h =
+    with_outboxes os _ t.issued h.2 (apart_put t a k h.0 (apart_before m h.0 t.issued (a.apart k (behind m h.0) h.1)))
 
 module _ (t : Txns) (a : AreApart t) (m : Message) (n : IsNew m.id t) where
   pub apart_queued : (k : ℕ) (os : Outboxes) → os ≡ changed (behind m) k t.outboxes (get t.outboxes k) → AreApart (record { outboxes = os; issued = t.issued })

@@ -4,5 +4,6 @@ pub mod Listed
 pub mod NumberMaps
 pub mod Once
 pub mod Outboxes
+pub mod TakenBack
 pub mod Timed
 pub mod Timers

@@ -9,11 +9,11 @@ use Rattle.due_list.proofs.Ids.{same_id, one_id, id_of_entry, of_with, of_withou
 use Rattle.transaction_table.specs.declared.outbox.Message.{Message}
 use Rattle.transaction_table.specs.declared.outbox.Outbox.{Outbox}
 use Rattle.transaction_table.specs.declared.outbox.Request.{Request}
-use Rattle.transaction_table.specs.Outboxes.{opened, behind, next_of, replaced, changed, again_outbox, again_request}
+use Rattle.transaction_table.specs.Outboxes.{HasLost, opened, behind, next_of, replaced, changed, again_outbox, again_request}
 use Rattle.transaction_table.specs.Sends.{due_after}
 use Rattle.transaction_table.specs.Tables.{Txns, Outboxes, Requests, messages, AreDistinct, AreApart, IsNew}
 use Rattle.transaction_table.specs.Timed.{Time, time_of, passed, AreTimed, IsListed}
-use Rattle.transaction_table.proofs.Apart.{all-push}
+use Rattle.transaction_table.proofs.Apart.{all-push, all-front}
 use Rattle.transaction_table.proofs.Once.{get_put, get_removed}
 use Rattle.transaction_table.proofs.Timed.{put_back, none_some, one_there, timed_empty, timed_owner, timed_removed, timed_added, timed_ended, timed_issued, untimed}
 
@@ -132,6 +132,16 @@ module _ (t : Txns) (a : AreApart t) (es : List Entry) (l : IsListed es t) where
       let f : ℕ → Option Time = λ k. time_of k es in
       let d : AreTimed w f t = timed_owner l.0 f t l.1 m.id p n.0 in
       (w, timed_put t a w f d p o (behind m o) e (a.apart p o e).1.0 (all-push (λ x. w x.id ≡ p) (messages o) m (d.owned p o e) (ap (λ b. cond b p (l.0 m.id)) (one_id m.id))) f (λ k. restored o p k e (o.head.id == k) refl))
+
+  -- the last message that waits is taken out
+  pub listed_lost : (m : Message) (p : ℕ) (os : Outboxes) → HasLost m p t.outboxes os → IsListed es (record t { outboxes = os })
+  listed_lost m p os h =
+      let o : Outbox = h.0 in
+      let f : ℕ → Option Time = λ k. time_of k es in
+      as_outboxes t es os _ es h.2 (
+        l.0,
+        timed_put t a l.0 f l.1 p (behind m o) o h.1 (a.apart p (behind m o) h.1).1.0 (all-front (λ x. l.0 x.id ≡ p) (messages o) m (l.1.owned p (behind m o) h.1)) f (λ k. restored (behind m o) p k h.1 (o.head.id == k) refl),
+      )
 
   -- an outbox that is forgotten
   pub listed_removed : (p : ℕ) (o : Outbox) → get t.outboxes p ≡ Some o → (fs : List Entry) → ((k : ℕ) → time_of k fs ≡ cond (o.head.id == k) None (time_of k es))

@@ -1,13 +1,13 @@
 -- Outboxes whose head ends.
-use Rattle.std.proofs.Common.{◌≡◌, ℕ, List, ap, sym, ◌∙◌}
-use Rattle.std.specs.Prelude.{Option, Some, None, Result, Ok, Err, OnErr, unwrap_or}
+use Rattle.std.proofs.Common.{◌≡◌, ℕ, List, [], ap, sym, subst, ◌∙◌}
+use Rattle.std.specs.Prelude.{Option, Some, None, Result, Ok, Err, OnErr, MatchOption, unwrap_or}
 use Rattle.std.specs.Option.{option_map}
 use Rattle.std.specs.Ordering.{nat_cmp}
 use Rattle.std.specs.Map.{lookup, set_value}
 use Rattle.std.specs.FinMap.{FinMap, get, insert, remove}
 use Rattle.transaction_table.specs.declared.outbox.Message.{Message}
 use Rattle.transaction_table.specs.declared.outbox.Outbox.{Outbox}
-use Rattle.transaction_table.specs.Outboxes.{promoted, promoted_head, next_in, next_of, put_some, replaced}
+use Rattle.transaction_table.specs.Outboxes.{IsAlone, HasLost, behind, promoted, promoted_head, next_in, next_of, put_some, replaced}
 use Rattle.ordered_tables.proofs.Trees.{at}
 use Rattle.transaction_table.proofs.NumberMaps.{Rising, numbered_of, found, written, same_there}
 
@@ -21,6 +21,15 @@ promoted_there now k x w es fs m r s v t e g =
     by_next : (o : Option Outbox) → w ≡ unwrap_or o x → numbered_of fs ≡ put_some k m o
     by_next None g = same_there k x w es fs m r s v t e g
     by_next (Some y) g = written k x w es fs m r s v t e ∙ ap (insert m k) g
+
+-- an outbox whose last message is taken out where it stands
+pub lost_there : (k : ℕ) (x w : Outbox) (es fs : List (ℕ × Outbox)) (m : FinMap nat_cmp Outbox) → Rising es → Rising fs → numbered_of es ≡ m
+    → Some x ≡ lookup (at (λ k. k) nat_cmp k) es → fs ≡ set_value (at (λ k. k) nat_cmp k) es w
+    → (last : Option Message) → MatchOption last ((x.waiting ≡ []) × (w ≡ x)) (λ l. x ≡ behind l w)
+    → MatchOption last (IsAlone (get m k) × (numbered_of fs ≡ m)) (λ l. HasLost l k m (numbered_of fs))
+lost_there k x w es fs m r s v t e None h =
+    (subst IsAlone (sym (found k (Some x) es m r v t)) h.0, same_there k x w es fs m r s v t e h.1)
+lost_there k x w es fs m r s v t e (Some l) h = (w, found k (Some x) es m r v t ∙ ap Some h, written k x w es fs m r s v t e)
 
 -- a head that ends where another message waits
 pub ended_before : (now k : ℕ) (m n : FinMap nat_cmp Outbox) (there : Option Outbox) (h : Message) → Some h ≡ promoted_head now there → n ≡ put_some k m (next_in now there)

@@ -1,8 +1,8 @@
 -- What waits to be sent, or for an answer.
-use Rattle.std.specs.Prelude.{ℕ, List, [], ◌∷◌, ◌++◌, Option, Some, None}
+use Rattle.std.specs.Prelude.{ℕ, ◌≡◌, List, [], ◌∷◌, ◌++◌, Option, Some, None, IfSome}
 use Rattle.std.specs.Option.{option_map}
 use Rattle.std.specs.Ordering.{nat_cmp}
-use Rattle.std.specs.FinMap.{FinMap, insert, remove}
+use Rattle.std.specs.FinMap.{FinMap, get, insert, remove}
 use Rattle.reload_ids.specs.declared.NodeId.{NodeId}
 use Rattle.transaction_table.specs.declared.txn.Txn.{Txn}
 use Rattle.transaction_table.specs.declared.txn.Queued.{Queued}
@@ -34,6 +34,15 @@ opened now head waiting = record { head = head; sends = 1; due = due_after now; 
 -- an outbox in which one more message waits
 abbrev pub behind : Message → Outbox → Outbox
 behind m o = record o { waiting = o.waiting ++ m ∷ [] }
+
+-- no message waits behind the head of an outbox, if there is one
+abbrev pub IsAlone : Option Outbox → Type 0
+IsAlone there = IfSome there (λ o. o.waiting ≡ [])
+
+-- the outbox at a key has lost the message that waited last
+abbrev pub HasLost : Message → ℕ → FinMap nat_cmp Outbox → FinMap nat_cmp Outbox → Type 0
+HasLost last k old new =
+    (o : Outbox) × (get old k ≡ Some (behind last o)) × (new ≡ insert old k o)
 
 -- an outbox whose head ended: the next message is its head, if there is one
 abbrev pub promoted : ℕ → Outbox → Option Outbox

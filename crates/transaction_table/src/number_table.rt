@@ -1,9 +1,9 @@
 //! Values by number.
 
-ghost use Rattle.std.specs.Prelude.{◌≡◌, ◌<◌, ◌^◌, Some, None, IfOk, OnOk, OnErr};
+ghost use Rattle.std.specs.Prelude.{◌≡◌, ◌<◌, ◌^◌, Some, None, IfOk, OnOk, OnErr, MatchOption};
 ghost use Rattle.std.specs.Option.{option_copied, option_map};
 ghost use Rattle.std.specs.FinMap as map;
-ghost use Rattle.transaction_table.specs.Outboxes.{again_outbox, again_request, behind, changed, next_in, next_of, promoted_head, put_some};
+ghost use Rattle.transaction_table.specs.Outboxes.{HasLost, IsAlone, again_outbox, again_request, behind, changed, next_in, next_of, promoted_head, put_some};
 
 use crate::outbox::{Message, Outbox, Request};
 use reload_base::NoMemory;
@@ -117,6 +117,19 @@ impl NumberTable<Outbox> {
             return None;
         };
         outbox.promote(now)
+    }
+
+    /// Takes the last message that waits for a node out again. Where none waits, nothing changes.
+    /// No memory is taken.
+    pub fn pop_last(&mut self, key: u128) -> Option<Message>
+        ensures { MatchOption result
+            (IsAlone (map.get self.old key) × (self.new ≡ self.old))
+            (λ last. HasLost last key self.old self.new) }
+    {
+        let Some(outbox) = self.tree.get_mut(&key) else {
+            return None;
+        };
+        outbox.pop_last()
     }
 
     /// Ends the head to a node, and hands it back. The next message to it is sent now. No memory is

@@ -1,7 +1,7 @@
 //! What waits for a peer.
 
-ghost use Rattle.std.specs.Prelude.{◌≡◌, ◌<◌, ◌^◌, [], unwrap_or, OnOk, OnErr};
-ghost use Rattle.std.specs.Option.{option_map};
+ghost use Rattle.std.specs.Prelude.{ℕ, ◌≡◌, ◌<◌, ◌^◌, [], unwrap_or, OnOk, OnErr, MatchOption};
+ghost use Rattle.std.specs.Option.{option_copied, option_map};
 ghost use Rattle.transaction_table.specs.Outboxes.{opened, behind, promoted, again_outbox, again_request};
 
 use crate::RESEND_AFTER;
@@ -53,6 +53,13 @@ impl Outbox {
         }
     }
 
+    /// The message that is sent when the head ends.
+    pub fn next(&self) -> Option<&Message>
+        ensures { (now : ℕ) → option_copied result ≡ option_map (λ o. o.head) (promoted now self.now) }
+    {
+        self.waiting.first()
+    }
+
     /// Puts a message behind the others. After `NoMemory` the outbox is as before.
     pub fn push(&mut self, message: Message) -> Result<(), NoMemory>
         ensures ok { OnOk result (self.new ≡ behind message self.old) }
@@ -72,6 +79,15 @@ impl Outbox {
         self.sends = 1;
         self.due = now + RESEND_AFTER;
         Some(std::mem::replace(&mut self.head, next))
+    }
+
+    /// Takes the last message that waits out again. Where none waits, nothing changes. No memory
+    /// is taken.
+    pub fn pop_last(&mut self) -> Option<Message>
+        ensures { MatchOption result ((self.old.waiting ≡ []) × (self.new ≡ self.old))
+            (λ last. self.old ≡ behind last self.new) }
+    {
+        self.waiting.pop_last()
     }
 
     /// Sends the head again.

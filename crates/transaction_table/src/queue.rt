@@ -1,6 +1,7 @@
 //! Messages in a queue.
 
-ghost use Rattle.std.specs.Prelude.{◌≡◌, [], ◌∷◌, ◌++◌, OnOk, OnErr, MatchOption};
+ghost use Rattle.std.specs.Prelude.{◌≡◌, List, [], ◌∷◌, ◌++◌, OnOk, OnErr, MatchOption};
+ghost use Rattle.std.specs.Option.{option_copied};
 
 use crate::outbox::Message;
 use reload_base::NoMemory;
@@ -46,11 +47,27 @@ impl Queue {
         Ok(())
     }
 
+    /// The first message.
+    pub fn first(&self) -> Option<&Message>
+        ensures { MatchOption (option_copied result) (self.now ≡ [])
+            (λ first. (rest : List Message) × (self.now ≡ first ∷ rest)) }
+    {
+        self.items.front()
+    }
+
     /// Takes the first message out, without memory.
     pub fn pop(&mut self) -> Option<Message>
         ensures { MatchOption result ((self.old ≡ []) × (self.new ≡ []))
             (λ first. self.old ≡ first ∷ self.new) }
     {
         self.items.pop_front()
+    }
+
+    /// Takes the last message out, without memory.
+    pub fn pop_last(&mut self) -> Option<Message>
+        ensures { MatchOption result ((self.old ≡ []) × (self.new ≡ []))
+            (λ last. self.old ≡ self.new ++ last ∷ []) }
+    {
+        self.items.pop_back()
     }
 }

@@ -1,8 +1,9 @@
 //! The transactions of a node.
 
-ghost use Rattle.std.specs.Prelude.{◌≡◌, ◌+◌, ◌==◌, ◌<◌, ◌≤◌, ◌^◌, fold, length, not, is_some, map, Some, None, IfOk, OnOk, OnErr};
+ghost use Rattle.std.specs.Prelude.{ℕ, ◌≡◌, ◌+◌, ◌==◌, ◌<◌, ◌≤◌, ◌^◌, fold, length, not, is_some, map, Some, None, IfOk, OnOk, OnErr};
 ghost use Rattle.std.specs.Option.{option_copied, option_map};
 ghost use Rattle.std.specs.FinMap as maps;
+ghost use Rattle.transaction_table.specs.Outboxes.{next_in};
 ghost use Rattle.transaction_table.specs.Tables as txns;
 ghost use Rattle.transaction_table.specs.declared.spot.Spot.TheVariants.{Head, Issued};
 
@@ -92,6 +93,18 @@ impl Table {
         Ok(true)
     }
 
+    /// Takes the message that was queued last out again: the last one to its peer, with its outbox
+    /// where it is alone there. No memory is taken.
+    pub fn take_back(&mut self, peer: NodeId)
+        ensures { (before : txns.Txns) (now : ℕ) (t : Txn Queued) → t.peer ≡ peer
+            → self.old ≡ txns.queued now t before → self.new ≡ before }
+    {
+        match self.outboxes.pop_last(peer.0) {
+            Some(last) => drop(last),
+            None => self.forget(peer),
+        }
+    }
+
     /// Sends a transaction at once, at a time in milliseconds and outside the outboxes. After
     /// `NoMemory` the table is as before.
     pub fn issue(&mut self, t: Txn<Queued>, now: u64) -> Result<(), NoMemory>
@@ -127,6 +140,14 @@ impl Table {
         ensures { result ≡ option_map (λ o. o.head.id) (maps.get self.now.outboxes peer.0) }
     {
         Some(self.outboxes.get(peer.0)?.head.id)
+    }
+
+    /// The bytes of the message that is sent to a peer when the head of its outbox ends.
+    pub fn next(&self, peer: NodeId) -> Option<&[u8]>
+        ensures { (now : ℕ) → option_copied result
+            ≡ option_map (λ o. o.head.bytes) (next_in now (maps.get self.now.outboxes peer.0)) }
+    {
+        Some(self.outboxes.get(peer.0)?.next()?.bytes.as_slice())
     }
 
     /// Whether the outbox to a peer holds nothing.
