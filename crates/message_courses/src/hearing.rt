@@ -60,6 +60,16 @@ fn envelope_of<'a>(alloc: Global, message: &'a [u8]) -> Result<Option<Envelope<'
     }
 }
 
+/// The message code of a message, where it has a header and a message code behind it.
+pub fn code_in(alloc: Global, message: &[u8]) -> Result<Option<u16>, NoMemory>
+    ensures { IfOk result (λ code. code ≡ option_map (λ e. e.code) (envelope_of message.now)) }
+{
+    match envelope_of(alloc, message)? {
+        Some(e) => Ok(Some(e.code)),
+        None => Ok(None),
+    }
+}
+
 /// Whether a message is one of the overlay with this number, and didn't come too long a way.
 #[tactic(auto, unfolding(node_model::specs::Heard::is_ours))]
 fn is_ours(overlay: u32, e: &Envelope<'_>) -> bool

@@ -10,6 +10,6 @@ mod options;
 mod requests;
 
 pub use answers::{answer_course, reply_header};
-pub use hearing::{Envelope, heard_in, is_answer};
+pub use hearing::{Envelope, code_in, heard_in, is_answer};
 pub use options::any_has;
 pub use requests::course;

@@ -17,8 +17,8 @@ use Rattle.transaction_table.specs.declared.spot.Spot.{Spot}
 use Rattle.transaction_table.specs.Sends.{is_over}
 use Rattle.transaction_table.specs.Tables.{Txns, txn_at}
 use Rattle.node_model.specs.Links.{Links, Sent, next_sequence, payload_to, with_sent}
-use Rattle.node_model.specs.Nodes.{Node, Post, frames_of, links_after, frames_of_all, links_after_all}
-use Rattle.node_model.specs.Clocks.{spelling_of, post_again, posts_again, node_clocked}
+use Rattle.node_model.specs.Nodes.{Node, Post, spelling_of, frames_of, links_after, frames_of_all, links_after_all}
+use Rattle.node_model.specs.Clocks.{post_again, posts_again, node_clocked}
 use Rattle.node_links.proofs.Framed.{few_frames}
 use Rattle.node_links.proofs.Tables.{links_of}
 use Rattle.node_links.specs.Kept.{node_of}

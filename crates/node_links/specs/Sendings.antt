@@ -5,9 +5,9 @@ use Rattle.wire_core.specs.declared.limits.TheConstants.{MAX_MESSAGE}
 use Rattle.reload_ids.specs.declared.NodeId.{NodeId}
 use Rattle.forwarding_header.specs.Header.{IsSpelledHeader}
 use Rattle.node_messages.specs.Making.{whole}
-use Rattle.node_model.specs.Nodes.{Post}
+use Rattle.node_model.specs.Nodes.{Post, spelling_of}
 use Rattle.node_links.specs.declared.sending.Sending.{Sending}
-use Rattle.node_links.specs.declared.sending.Sending.TheVariants.{Made, Onward}
+use Rattle.node_links.specs.declared.sending.Sending.TheVariants.{Made, Kept, Onward}
 
 -- a message that is for a node
 abbrev pub posted : NodeId → Option (List ℕ) → Post
@@ -16,6 +16,7 @@ posted to message = record { to = to; message = message }
 -- what is sent, as a plain value
 abbrev pub post_of : Sending → Post
 post_of (Made to message) = posted to message
+post_of (Kept to bytes) = posted to (spelling_of bytes.now)
 post_of (Onward to header behind) = posted to (Some (whole header behind.now))
 
 -- the node that something is for
@@ -26,6 +27,7 @@ receiver_of (Some post) = Some post.to
 -- Its message, if it has one, isn't too large, and a header that is passed on has a spelling.
 abbrev pub IsSending : Sending → Type 0
 IsSending (Made to message) = IfSome message (λ m. length m ≤ MAX_MESSAGE)
+IsSending (Kept to bytes) = length bytes.now ≤ MAX_MESSAGE
 IsSending (Onward to header behind) =
     IsSpelledHeader header × (length (whole header behind.now) ≤ MAX_MESSAGE)
 

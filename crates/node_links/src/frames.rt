@@ -1,7 +1,7 @@
 //! The frames in which what a node sends leaves it.
 
 ghost use Rattle.std.specs.Prelude.{◌≡◌, ◌≤◌, ◌∷◌, ◌++◌, Some, length, IfOk, IfSome, OnOk};
-ghost use Rattle.std.specs.Option.{option_and_then, option_map};
+ghost use Rattle.std.specs.Option.{option_and_then, option_map, option_copied, option_to_list};
 ghost use Rattle.transaction_table.specs.Tables.{txn_at};
 ghost use Rattle.wire_core.specs.declared.limits.TheConstants.{MAX_MESSAGE};
 ghost use Rattle.link_framing.specs.declared.frame.Frame.TheVariants.{Payload};
@@ -9,7 +9,7 @@ ghost use Rattle.link_framing.specs.Framing.{frame};
 ghost use Rattle.forwarding_header.specs.Header.{IsSpelledHeader};
 ghost use Rattle.node_messages.specs.Making.{with_length, whole};
 ghost use Rattle.node_model.specs.Links as model;
-ghost use Rattle.node_model.specs.Nodes.{frames_of, frames_of_all, links_after, links_after_all};
+ghost use Rattle.node_model.specs.Nodes.{spelling_of, frames_of, frames_of_all, links_after, links_after_all};
 ghost use Rattle.node_model.specs.Clocks.{post_again, posts_again};
 ghost use Rattle.node_links.specs.Small.{AreSmall};
 ghost use Rattle.node_links.specs.Sendings.{posted, post_of, IsSending, payload_front};
@@ -126,6 +126,13 @@ fn onward_to(
     ))
 }
 
+/// A message that is kept with its bytes, of which there are none where it has no spelling.
+fn spelling_of(bytes: &[u8]) -> Option<&[u8]>
+    ensures { option_copied result ≡ spelling_of bytes.now }
+{
+    if bytes.is_empty() { None } else { Some(bytes) }
+}
+
 /// Adds the frame of a message to a node, none where it has no spelling.
 #[tactic(auto, unfolding(node_model::specs::Nodes::frames_of))]
 fn add_posted(
@@ -184,6 +191,7 @@ fn add_sent(
                 message: Some(message),
             },
         ) => add_posted(alloc, links, to, Some(message.as_slice()), out),
+        Some(Sending::Kept { to, bytes }) => add_posted(alloc, links, to, spelling_of(bytes), out),
         Some(Sending::Onward { to, header, behind }) => {
             add_onward(alloc, links, to, header, behind, out)
         }
@@ -207,6 +215,7 @@ pub(crate) fn frames_posted(
 }
 
 /// The frames of a node that heard a payload: the ack leaves first, and then what it sends.
+#[tactic(auto, using(crate::proofs::Counted::frames_alone))]
 pub(crate) fn frames_heard(
     alloc: Global,
     links: &Links,
@@ -216,7 +225,7 @@ pub(crate) fn frames_heard(
 ) -> Result<List<(NodeId, Bytes)>, NoMemory>
     requires { IfSome sending IsSending }
     ensures { IfOk result (λ frames. frames ≡ model.ack_to from sequence links.now
-        ∷ frames_of links.now (option_map post_of sending.entry)) }
+        ∷ frames_of_all links.now (option_to_list (option_map post_of sending.entry))) }
 {
     let mut out = List::new(alloc);
     out.push(ack_to(alloc, links, from, sequence)?)?;
@@ -234,11 +243,7 @@ fn posted_again(table: &Table, spot: Spot, limit: Option<u8>) -> Option<(NodeId,
     if limit.is_some_and(|limit| limit <= sends) {
         return None;
     }
-    let bytes = table.bytes_at(spot)?;
-    if bytes.is_empty() {
-        return Some((to, None));
-    }
-    Some((to, Some(bytes)))
+    Some((to, spelling_of(table.bytes_at(spot)?)))
 }
 
 /// Adds the frame in which the transaction at a spot is sent again, if it is, and notes that its

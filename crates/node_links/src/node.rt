@@ -1,7 +1,7 @@
 //! What peers and clients have in common.
 
 ghost use Rattle.std.specs.Prelude.{◌≡◌, ◌≤◌, ◌<◌, ◌∷◌, Some, length, IfOk, IfSome, OnOk, OnErr};
-ghost use Rattle.std.specs.Option.{option_map};
+ghost use Rattle.std.specs.Option.{option_map, option_to_list};
 ghost use Rattle.wire_core.specs.declared.limits.TheConstants.{MAX_MESSAGE};
 ghost use Rattle.security_block.specs.Signers.{IsNamed};
 ghost use Rattle.node_model.specs.declared.limits.TheConstants.{MAX_LOAD};
@@ -150,9 +150,11 @@ impl Node {
         requires light { model.work self.old < MAX_LOAD }
         requires sending { IfSome sending IsSending }
         ensures frames { IfOk result (λ frames. frames ≡ ack_to from sequence self.old.links
-            ∷ model.frames_of self.old.links (option_map post_of sending.entry)) }
+            ∷ model.frames_of_all self.old.links
+            (option_to_list (option_map post_of sending.entry))) }
         ensures ok { OnOk result (self.new
-            ≡ model.node_after from sequence (option_map post_of sending.entry) self.old) }
+            ≡ model.node_after from sequence (option_to_list (option_map post_of sending.entry))
+            self.old) }
         ensures err { OnErr result (self.new ≡ self.old) }
     {
         let to = receiver_of(&sending);
@@ -187,6 +189,7 @@ impl Node {
         self.frames += frames.len() as u64;
         Ok(frames)
     }
+
     /// The clock moved on: the frames in which the transactions at some spots, at most as many as
     /// it used ids, are sent again, save those that were sent as often as a limit allows. After
     /// `NoMemory` the node is as before.

@@ -17,6 +17,12 @@ pub enum Sending<'a> {
         to: NodeId,
         message: Option<Bytes>,
     },
+    /// A message that is kept to be sent again, of at most `MAX_MESSAGE` bytes. One without a
+    /// spelling has no bytes: then nothing leaves, but its sequence is used.
+    Kept {
+        to: NodeId,
+        bytes: &'a [u8],
+    },
     /// A message that is passed on: a header, whose length is filled in, and what follows it.
     Onward {
         to: NodeId,
@@ -31,6 +37,7 @@ pub(crate) fn receiver_of(sending: &Option<Sending<'_>>) -> Option<NodeId>
 {
     match sending {
         None => None,
-        Some(Sending::Made { to, .. } | Sending::Onward { to, .. }) => Some(*to),
+        Some(Sending::Made { to, .. } | Sending::Kept { to, .. } | Sending::Onward { to, .. }) =>
+            Some(*to),
     }
 }

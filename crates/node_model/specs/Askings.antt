@@ -1,7 +1,6 @@
 -- What a message asks of the peer that owns its resource.
-use Rattle.std.specs.Prelude.{ℕ, ◌==◌, ◌&&◌, ◌||◌, Bool, true, false, not, List, map, Option, Some, None, is_some, if◌then◌else◌}
+use Rattle.std.specs.Prelude.{ℕ, ◌==◌, ◌&&◌, ◌||◌, Bool, false, not, List, map, Option, Some, None, is_some, if◌then◌else◌}
 use Rattle.std.specs.List.{list_any}
-use Rattle.std.specs.Option.{option_map_or}
 use Rattle.reload_ids.specs.declared.NodeId.{NodeId}
 use Rattle.reload_ids.specs.declared.ResourceId.{ResourceId}
 use Rattle.data_models.specs.declared.config.Config.{Config}
@@ -18,7 +17,6 @@ use Rattle.forwarding_header.specs.declared.header.Header.{Header}
 use Rattle.message_bodies.specs.declared.body.Body.{Body}
 use Rattle.message_bodies.specs.declared.body.Body.TheVariants as bodies
 use Rattle.message_bodies.specs.declared.code.TheConstants.{STORE, FETCH, JOIN}
-use Rattle.message_bodies.specs.declared.contents.Contents.{Contents}
 use Rattle.message_bodies.specs.declared.extension.Extension.{Extension}
 use Rattle.node_messages.specs.declared.message.Message.{Message}
 use Rattle.node_messages.specs.declared.message.Message.TheVariants as messages
@@ -29,7 +27,6 @@ use Rattle.storage_model.specs.declared.request.AskedValues.{AskedValues}
 use Rattle.storage_model.specs.declared.request.AskedValues.TheVariants as values
 use Rattle.storage_model.specs.declared.request.StoreAsked.{StoreAsked}
 use Rattle.storage_model.specs.declared.request.FetchAsked.{FetchAsked}
-use Rattle.storage_model.specs.declared.request.JoinAsked.{JoinAsked}
 use Rattle.storage_model.specs.declared.request.Asked.{Asked}
 use Rattle.storage_model.specs.declared.request.Asked.TheVariants as asked
 use Rattle.storage_model.specs.Requests.{is_sound, is_sound_fetch}

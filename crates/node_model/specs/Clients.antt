@@ -1,5 +1,5 @@
 -- A client, and what it does with what it is given (RFC 6940, 6.2 and 7.4).
-use Rattle.std.specs.Prelude.{ℕ, ◌+◌, ◌==◌, ◌&&◌, Bool, true, false, List, [], ◌∷◌, fold, length, map, nat_le, Option, Some, None, is_some, unwrap_or, Result, Ok, Err, if◌then◌else◌}
+use Rattle.std.specs.Prelude.{ℕ, ◌+◌, ◌==◌, Bool, List, [], ◌∷◌, fold, length, map, nat_le, Option, Some, None, is_some, unwrap_or, Result, Ok, if◌then◌else◌}
 use Rattle.std.specs.Option.{option_map_or, option_and_then}
 use Rattle.std.specs.Ordering.{nat_cmp}
 use Rattle.std.specs.FinMap.{FinMap, get, insert, remove, empty, len}
@@ -8,7 +8,6 @@ use Rattle.wire_core.specs.declared.bad.Bad.{Bad}
 use Rattle.wire_core.specs.Reading.{whole_of}
 use Rattle.data_models.specs.declared.config.Config.{Config}
 use Rattle.security_block.specs.declared.about.About.{About}
-use Rattle.forwarding_header.specs.declared.header.Header.{Header}
 use Rattle.message_bodies.specs.declared.body.Body.{Body}
 use Rattle.message_bodies.specs.declared.body.Body.TheVariants as bodies
 use Rattle.message_bodies.specs.declared.store_ans.StoreKindResponse.{StoreKindResponse}
@@ -156,40 +155,40 @@ taken_from words from e c =
 pub record Reaction : Type 0 where
   pub txns : Txns
   pub questions : FinMap nat_cmp Question
-  pub post : Option Post
+  pub posts : List Post
   pub notices : List Notice
 
 -- nothing but what is sent
-abbrev pub sends : Client → Option Post → Reaction
-sends c post = record { txns = c.txns; questions = c.questions; post = post; notices = [] }
+abbrev pub sends : Client → List Post → Reaction
+sends c posts = record { txns = c.txns; questions = c.questions; posts = posts; notices = [] }
 
 -- it takes an answer: the transaction ends
 unfoldable pub takes : Client → ℕ → NodeId → ℕ → Told → Reaction
 takes c now from id told = record {
   txns = after_answer now from.0 id c.txns;
   questions = remove c.questions id;
-  post = None;
+  posts = [];
   notices = notices.Answered id told ∷ [];
 }
 
 -- what a client does with an answer by its course
 abbrev pub by_course : SignerWords → Client → ℕ → NodeId → Envelope → AnswerCourse → Reaction
-by_course words c now from e Ignored = sends c None
+by_course words c now from e Ignored = sends c []
 by_course words c now from e (Passed next h) =
-    sends c (Some (record { to = next; message = Some (whole h e.behind) }))
+    sends c (record { to = next; message = Some (whole h e.behind) } ∷ [])
 by_course words c now from e Mine =
-    option_map_or (takes c now from e.header.id) (taken_from words from e c) (sends c None)
+    option_map_or (takes c now from e.header.id) (taken_from words from e c) (sends c [])
 
 -- what it makes of a message that it looks at; it drops every request
 unfoldable pub reaction : SignerWords → Client → ℕ → NodeId → Envelope → Reaction
 reaction words c now from e =
     if is_answer e then by_course words c now from e (answer_course (me c.node) e.header)
-    else sends c None
+    else sends c []
 
 -- what it makes of a message, if it looks at it
 unfoldable pub reaction_to : SignerWords → Client → ℕ → NodeId → List ℕ → Reaction
 reaction_to words c now from message =
-    option_map_or (reaction words c now from) (heard_in c.node.config message) (sends c None)
+    option_map_or (reaction words c now from) (heard_in c.node.config message) (sends c [])
 
 -- a client that heard a payload: the ack leaves first, and then what it makes of the message
 unfoldable pub hears : SignerWords → ℕ → NodeId → ℕ → List ℕ → Client → Step Client
@@ -197,12 +196,12 @@ hears words now from sequence message c =
     let r = reaction_to words c now from message in
     record {
       node = record {
-        node = node_after from sequence r.post c.node;
+        node = node_after from sequence r.posts c.node;
         txns = r.txns;
         questions = r.questions;
       };
       outputs = record {
-        frames = ack_to from sequence c.node.links ∷ frames_of c.node.links r.post;
+        frames = ack_to from sequence c.node.links ∷ frames_of_all c.node.links r.posts;
         notices = r.notices;
       };
     }

@@ -1,5 +1,5 @@
 -- What a node does with its transactions that are due (RFC 6940, 6.2.1).
-use Rattle.std.specs.Prelude.{ℕ, ◌+◌, List, [], ◌∷◌, length, Option, Some, None, if◌then◌else◌}
+use Rattle.std.specs.Prelude.{ℕ, ◌+◌, List, length, Option, Some, None, if◌then◌else◌}
 use Rattle.std.specs.List.{filter_map}
 use Rattle.std.specs.Option.{option_and_then}
 use Rattle.transaction_table.specs.declared.txn.Txn.{Txn}
@@ -7,12 +7,7 @@ use Rattle.transaction_table.specs.declared.txn.Outstanding.{Outstanding}
 use Rattle.transaction_table.specs.declared.spot.Spot.{Spot}
 use Rattle.transaction_table.specs.Sends.{is_over}
 use Rattle.transaction_table.specs.Tables.{Txns, txn_at}
-use Rattle.node_model.specs.Nodes.{Node, Post, frames_of_all, links_after_all}
-
--- the message of a transaction, which has no bytes where it has no spelling
-abbrev pub spelling_of : List ℕ → Option (List ℕ)
-spelling_of [] = None
-spelling_of (b ∷ bs) = Some (b ∷ bs)
+use Rattle.node_model.specs.Nodes.{Node, Post, spelling_of, frames_of_all, links_after_all}
 
 -- a transaction is sent again, unless it was sent as often as a limit allows
 abbrev pub post_again : Option ℕ → Txn Outstanding → Option Post

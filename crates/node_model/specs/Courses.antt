@@ -10,7 +10,6 @@ use Rattle.forwarding_header.specs.declared.header.Header.{Header}
 use Rattle.forwarding_header.specs.declared.destination.Destination.{Destination}
 use Rattle.forwarding_header.specs.declared.destination.Destination.TheVariants as to
 use Rattle.forwarding_header.specs.declared.forwarding_option.TheConstants.{FORWARD_CRITICAL}
-use Rattle.storage_model.specs.declared.refusal.Refusal.{Refusal}
 use Rattle.storage_model.specs.declared.refusal.Refusal.TheVariants.{NotFound, UnsupportedForwardingOption, TtlExceeded, MessageTooLarge, InvalidMessage}
 use Rattle.node_model.specs.declared.course.Course.{Course}
 use Rattle.node_model.specs.declared.course.Course.TheVariants.{Dropped, Refused, Here, Owned, Forwarded}

@@ -1,7 +1,9 @@
 pub mod Links
 pub mod Nodes
 pub mod Clocks
+pub mod Copies
 pub mod Heard
+pub mod Ends
 pub mod Ways
 pub mod Courses
 pub mod Askings

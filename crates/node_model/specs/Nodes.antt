@@ -8,7 +8,6 @@ use Rattle.node_model.specs.declared.command.Command.{Command}
 use Rattle.node_model.specs.declared.input.Input.{Input}
 use Rattle.node_model.specs.declared.input.Input.TheVariants as inputs
 use Rattle.node_model.specs.declared.input.Outputs.{Outputs}
-use Rattle.node_model.specs.declared.notice.Notice.{Notice}
 use Rattle.node_model.specs.Links.{Links, Sent, no_links, with_sent, with_heard, payload_to}
 
 -- what a peer and a client have: its number, whom its certificate is about, its configuration, its
@@ -80,6 +79,11 @@ pub record Post : Type 0 where
   pub to : NodeId
   pub message : Option (List ℕ)
 
+-- a message that is kept with its bytes, of which there are none where it has no spelling
+abbrev pub spelling_of : List ℕ → Option (List ℕ)
+spelling_of [] = None
+spelling_of (b ∷ bs) = Some (b ∷ bs)
+
 -- the frames of what is sent: there is none for a message without a spelling
 unfoldable pub frames_of : Links → Option Post → List Sent
 frames_of links None = []
@@ -93,14 +97,6 @@ unfoldable pub links_after : Option Post → Links → Links
 links_after None links = links
 links_after (Some p) links = with_sent p.to.0 links
 
--- a node that heard a payload over a link, acked it, and sent what it sends
-unfoldable pub node_after : NodeId → ℕ → Option Post → Node → Node
-node_after from sequence post n = record n {
-  links = with_heard from.0 sequence (links_after post n.links);
-  inputs = n.inputs + 1;
-  frames = n.frames + 1 + length (frames_of n.links post);
-}
-
 -- the frames of messages that are sent one after the other
 unfoldable pub frames_of_all : Links → List Post → List Sent
 frames_of_all links [] = []
@@ -111,3 +107,11 @@ frames_of_all links (p ∷ ps) =
 unfoldable pub links_after_all : List Post → Links → Links
 links_after_all [] links = links
 links_after_all (p ∷ ps) links = links_after_all ps (links_after (Some p) links)
+
+-- a node that heard a payload over a link, acked it, and sent what it sends
+unfoldable pub node_after : NodeId → ℕ → List Post → Node → Node
+node_after from sequence posts n = record n {
+  links = with_heard from.0 sequence (links_after_all posts n.links);
+  inputs = n.inputs + 1;
+  frames = n.frames + 1 + length (frames_of_all n.links posts);
+}

@@ -1,13 +1,10 @@
 -- What a peer answers.
-use Rattle.std.specs.Prelude.{ℕ, ◌==◌, Bool, true, false, List, [], map, Option, Some, None, if◌then◌else◌}
-use Rattle.std.specs.List.{list_any}
+use Rattle.std.specs.Prelude.{ℕ, ◌==◌, List, [], map, Some, None, if◌then◌else◌}
 use Rattle.reload_ids.specs.declared.NodeId.{NodeId}
 use Rattle.security_block.specs.declared.about.About.{About}
 use Rattle.forwarding_header.specs.declared.header.Header.{Header}
-use Rattle.forwarding_header.specs.declared.forwarding_option.TheConstants.{DESTINATION_CRITICAL}
 use Rattle.message_bodies.specs.declared.body.Body.{Body}
 use Rattle.message_bodies.specs.declared.body.Body.TheVariants as bodies
-use Rattle.message_bodies.specs.declared.contents.Contents.{Contents}
 use Rattle.message_bodies.specs.declared.store_ans.StoreKindResponse.{StoreKindResponse}
 use Rattle.message_bodies.specs.StoreAns.{store_ans}
 use Rattle.node_messages.specs.declared.message.Message.{Message}
@@ -19,7 +16,7 @@ use Rattle.storage_model.specs.declared.answer.Answer.TheVariants.{Decided, Foun
 use Rattle.storage_model.specs.declared.refusal.Refusal.{Refusal}
 use Rattle.storage_model.specs.declared.refusal.Refusal.TheVariants.{Forbidden, GenerationCounterTooLow, UnknownExtension, InvalidMessage}
 use Rattle.storage_model.specs.Refusals.{error_code}
-use Rattle.node_model.specs.Nodes.{Node, Post}
+use Rattle.node_model.specs.Nodes.{Post}
 use Rattle.node_model.specs.Askings.{has_critical}
 use Rattle.node_model.specs.Ways.{reply_header}
 

@@ -1,5 +1,5 @@
 -- The requests of a client (RFC 6940, 7.4).
-use Rattle.std.specs.Prelude.{ℕ, List, [], ◌∷◌, map, Option, Some, None, unwrap_or}
+use Rattle.std.specs.Prelude.{ℕ, [], ◌∷◌, map, Option, unwrap_or}
 use Rattle.reload_ids.specs.declared.NodeId.{NodeId}
 use Rattle.reload_ids.specs.declared.ResourceId.{ResourceId}
 use Rattle.security_block.specs.declared.about.About.{About}

@@ -1,5 +1,5 @@
 -- The way of an answer: back along the destination list, to the node that asked (RFC 6940, 6.2.2).
-use Rattle.std.specs.Prelude.{ℕ, ◌-◌, ◌==◌, ◌&&◌, Bool, true, false, not, List, [], ◌∷◌, map, filter, reverse, nat_lt, bit_and, if◌then◌else◌}
+use Rattle.std.specs.Prelude.{ℕ, ◌-◌, ◌==◌, Bool, false, not, List, [], ◌∷◌, map, filter, reverse, nat_lt, bit_and, if◌then◌else◌}
 use Rattle.reload_ids.specs.declared.NodeId.{NodeId}
 use Rattle.forwarding_header.specs.declared.header.Header.{Header}
 use Rattle.forwarding_header.specs.declared.destination.Destination.{Destination}

@@ -1,5 +1,5 @@
 -- What a client makes of what it hears.
-use Rattle.std.proofs.Common.{◌≡◌, ℕ, ◌≤◌, Bool, true, false, cond, List, length, Option, Some, None, is_some, Result, Ok, Err, IfOk, refl, sym, ap, subst, ◌∙◌, arith}
+use Rattle.std.proofs.Common.{◌≡◌, ℕ, ◌≤◌, Bool, true, false, cond, List, [], length, Option, Some, None, is_some, Result, Ok, Err, IfOk, refl, sym, ap, subst, ◌∙◌, arith}
 use Rattle.std.specs.Prelude.{OnOk}
 use Rattle.std.specs.Option.{option_and_then}
 use Rattle.std.specs.FinMap.{get}
@@ -45,11 +45,11 @@ heard_out r words now from sequence message c x e done =
 
 -- it drops a request
 pub request_is : (words : SignerWords) (c : Client) (now : ℕ) (from : NodeId) (e : Envelope)
-    → is_answer e ≡ false → sends c None ≡ reaction words c now from e
+    → is_answer e ≡ false → sends c [] ≡ reaction words c now from e
 unfolding reaction
 request_is words c now from e f =
     sym (ap (λ (b : Bool). cond b
-    (by_course words c now from e (answer_course (me c.node) e.header)) (sends c None)) f)
+    (by_course words c now from e (answer_course (me c.node) e.header)) (sends c [])) f)
 
 -- and looks at the course of an answer
 pub answer_is : (words : SignerWords) (c : Client) (now : ℕ) (from : NodeId) (e : Envelope)
@@ -59,7 +59,7 @@ unfolding reaction
 answer_is words c now from e k f g =
     ap (λ (l : AnswerCourse). by_course words c now from e l) g
     ∙ sym (ap (λ (b : Bool). cond b
-    (by_course words c now from e (answer_course (me c.node) e.header)) (sends c None)) f)
+    (by_course words c now from e (answer_course (me c.node) e.header)) (sends c [])) f)
 
 -- what is passed on can be sent
 pub passed_sending : (e : Envelope) (next : Header) → IsWhole e → IsNextOf 0 e.header next

@@ -1,5 +1,5 @@
 -- What always holds of a client holds after each step.
-use Rattle.std.proofs.Common.{◌≡◌, ℕ, ◌+◌, ◌-◌, ◌*◌, ◌^◌, ◌<◌, ◌≤◌, nat_lt, length, Bool, true, false, cond, Option, Some, None, is_some, refl, sym, ap, subst, ◌∙◌, arith}
+use Rattle.std.proofs.Common.{◌≡◌, ℕ, ◌+◌, ◌-◌, ◌*◌, ◌^◌, ◌<◌, ◌≤◌, nat_lt, List, length, Bool, true, false, cond, Option, Some, None, is_some, refl, sym, ap, subst, ◌∙◌, arith}
 use Rattle.std.specs.Ordering.{nat_cmp, eq_by_cmp}
 use Rattle.std.specs.Cmp.{nat_cmp_total}
 use Rattle.std.specs.FinMap.{FinMap, nat_cmp-IsAntisymmetric, get, insert, remove, empty, get-empty, get-remove, len, len-empty, len-insert, len-remove}
@@ -41,12 +41,12 @@ unfolding counted
 counted_sound n m t q s e = subst (λ (k : Node). IsSound (client_of k t q)) (sym e)
     (node_sound n (counted n) t q s refl refl refl)
 
-pub heard_sound : (from : NodeId) (sequence : ℕ) (post : Option Post) (n m : Node) (t : Txns)
+pub heard_sound : (from : NodeId) (sequence : ℕ) (posts : List Post) (n m : Node) (t : Txns)
     (q : FinMap nat_cmp Question) → IsSound (client_of n t q)
-    → m ≡ node_after from sequence post n → IsSound (client_of m t q)
+    → m ≡ node_after from sequence posts n → IsSound (client_of m t q)
 unfolding node_after
-heard_sound from sequence post n m t q s e = subst (λ (k : Node). IsSound (client_of k t q)) (sym e)
-    (node_sound n (node_after from sequence post n) t q s refl refl refl)
+heard_sound from sequence posts n m t q s e = subst (λ (k : Node). IsSound (client_of k t q)) (sym e)
+    (node_sound n (node_after from sequence posts n) t q s refl refl refl)
 
 -- nothing is there yet
 start_sound : (n : Node) → n.about.peer ≡ false

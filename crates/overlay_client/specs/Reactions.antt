@@ -1,12 +1,12 @@
 -- What a client makes of a message that it hears.
-use Rattle.std.specs.Prelude.{◌≡◌, ℕ, ◌+◌, ◌≤◌, true, ◌∷◌, length, Some, None, is_some}
+use Rattle.std.specs.Prelude.{◌≡◌, ℕ, ◌+◌, ◌≤◌, true, [], ◌∷◌, length, is_some}
 use Rattle.wire_core.specs.declared.limits.TheConstants.{MAX_MESSAGE}
 use Rattle.reload_ids.specs.declared.NodeId.{NodeId}
 use Rattle.forwarding_header.specs.Header.{header, IsSpelledHeader, IsHeaderInRange}
 use Rattle.transaction_table.specs.Tables.{outstanding}
 use Rattle.node_model.specs.Links.{ack_to}
 use Rattle.node_model.specs.Heard.{Envelope}
-use Rattle.node_model.specs.Nodes.{Step, frames_of, node_after}
+use Rattle.node_model.specs.Nodes.{Step, frames_of_all, node_after}
 use Rattle.node_model.specs.Clients as model
 use Rattle.node_links.specs.Sendings.{post_of, IsSending}
 use Rattle.overlay_client.specs.declared.hearing.Reaction.{Reaction}
@@ -14,8 +14,8 @@ use Rattle.overlay_client.specs.declared.hearing.Reaction.TheVariants.{Nothing, 
 
 -- what it makes of a message, as a plain value
 abbrev pub reaction_of : model.Client → ℕ → NodeId → Reaction → model.Reaction
-reaction_of c now from Nothing = model.sends c None
-reaction_of c now from (Passes sending) = model.sends c (Some (post_of sending))
+reaction_of c now from Nothing = model.sends c []
+reaction_of c now from (Passes sending) = model.sends c (post_of sending ∷ [])
 reaction_of c now from (Takes id told) = model.takes c now from id told
 
 -- What is passed on can be sent, and what is taken answers a request.
@@ -34,12 +34,12 @@ pub record IsWhole (e : Envelope) : Type 0 where
 unfoldable pub heard : NodeId → ℕ → model.Reaction → model.Client → Step model.Client
 heard from sequence r c = record {
   node = record {
-    node = node_after from sequence r.post c.node;
+    node = node_after from sequence r.posts c.node;
     txns = r.txns;
     questions = r.questions;
   };
   outputs = record {
-    frames = ack_to from sequence c.node.links ∷ frames_of c.node.links r.post;
+    frames = ack_to from sequence c.node.links ∷ frames_of_all c.node.links r.posts;
     notices = r.notices;
   };
 }

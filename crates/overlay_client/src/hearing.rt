@@ -1,7 +1,7 @@
 //! What a client does with the bytes that come over its links.
 
 ghost use Rattle.std.specs.Prelude.{◌≡◌, ◌<◌, ◌^◌, ℕ, true, is_some, IfOk, IfSome, OnOk, OnErr};
-ghost use Rattle.std.specs.Option.{option_map};
+ghost use Rattle.std.specs.Option.{option_map, option_to_list};
 ghost use Rattle.transaction_table.specs.Tables.{outstanding};
 ghost use Rattle.node_messages.specs.Signed.{words_of};
 ghost use Rattle.node_model.specs.Clients as model;
@@ -121,9 +121,11 @@ impl Client {
         requires light { model.load self.old < MAX_LOAD }
         requires sending { IfSome sending IsSending }
         ensures ok { OnOk result (self.new ≡ (heard from sequence
-            (model.sends self.old (option_map post_of sending.entry)) self.old).node) }
+            (model.sends self.old (option_to_list (option_map post_of sending.entry)))
+            self.old).node) }
         ensures outputs { IfOk result (λ outputs. outputs ≡ (heard from sequence
-            (model.sends self.old (option_map post_of sending.entry)) self.old).outputs) }
+            (model.sends self.old (option_to_list (option_map post_of sending.entry)))
+            self.old).outputs) }
         ensures err { OnErr result (self.new ≡ self.old) }
     {
         let frames = self.node.hear(alloc, from, sequence, sending)?;

@@ -1,5 +1,5 @@
 -- The decisions of a ring whose tables don't change are those of one map.
-use Rattle.std.proofs.Common.{◌≡◌, ◌≢◌, ℕ, ◌⊎◌, inl, inr, ◌++◌, List, [], ◌∷◌, map, true, Some, None, refl, sym, ap, ◌∙◌, subst, ⊎_elim}
+use Rattle.std.proofs.Common.{◌≡◌, ◌≢◌, ℕ, ◌⊎◌, inl, inr, ◌++◌, List, [], ◌∷◌, map, true, Some, refl, sym, ap, ◌∙◌, subst, ⊎_elim}
 use Rattle.std.specs.List.{filter_map}
 use Rattle.std.specs.Ordering.{nat_cmp}
 use Rattle.std.specs.Cmp.{nat_cmp_total}
@@ -156,12 +156,12 @@ record_changed m p x r own e is same at q other =
     (cases_eq q r.0)
 
 goes_deed : (m : Map) (w : World) (n : ℕ) (p x : Peer) (told : List Notice) (flights : List Flight) → Holds m w → get w.actors n ≡ Some (APeer p)
-    → x.tables ≡ p.tables → x.node.config ≡ p.node.config → Deed w.clock p (record { records = x.records; post = None; notices = told })
+    → x.tables ≡ p.tables → x.node.config ≡ p.node.config → Deed w.clock p (record { peer = x; posts = []; notices = told })
     → GoesBy m w (record w { actors = insert w.actors n (APeer x); flights = flights }) (decided w.config (map (Tells n) told))
-goes_deed m w n p x told flights h at tables config (Silent records nothing) =
+goes_deed m w n p x told flights h at tables config (Silent still records nothing) =
     subst (GoesBy m w (record w { actors = insert w.actors n (APeer x); flights = flights })) (sym (decided_none w.config n told nothing))
     (goes_none m w _ (holds_with m m w n p x flights h at tables config (λ r own. ap (λ (y : Map). record_in y r) records ∙ h.same n p at r own) (λ r not_. refl)))
-goes_deed m w n p x told flights h at tables config (Decides r origin id q own records one) =
+goes_deed m w n p x told flights h at tables config (Decides r origin id q still own records one) =
     let e : Effect = effect_at p w.clock r origin id q in
     let d : Decision = told_decision w.config n w.clock r origin id q e in
     let same : e ≡ effect_on m d = same_effect p.node.config w.config w.clock r.0 (record_in p.records r.0) (record_in m r.0) origin id q (h.config n p at) (h.same n p at r.0 own) in

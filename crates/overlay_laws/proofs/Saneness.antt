@@ -28,7 +28,9 @@ use Rattle.node_model.specs.Heard.{Envelope, payload_in, heard_in, is_answer, me
 use Rattle.node_model.specs.Ways.{has_flag, answer_course}
 use Rattle.node_model.specs.Courses.{course}
 use Rattle.node_model.specs.Askings.{is_decided}
-use Rattle.node_model.specs.Peers.{Peer, Reaction, state_of, is_gone, decides, handled, by_course, by_answer_course, reaction, reaction_to, sends, hears, idles, framed, peer_step}
+use Rattle.node_model.specs.Peers.{Peer, Reaction, state_of, is_gone, decides, handled, by_course, by_answer_course, reaction, reaction_to, sends, ends, hears, idles, framed, peer_step}
+use Rattle.node_model.specs.Peers as peers
+use Rattle.node_model.specs.Ends.{is_ended_by}
 use Rattle.node_model.specs.Clients.{is_busy}
 use Rattle.run_model.specs.declared.flight.Flight.{Flight}
 use Rattle.run_model.specs.declared.flight.Fate.{Fate}
@@ -85,20 +87,25 @@ sane_course words models now p from e Here has is = sane_handled words models no
 sane_course words models now p from e (Owned r) has is = sane_handled words models now p from (Some r) e has is
 sane_course words models now p from e (Forwarded next h) has is = tt
 
-sane_answer : (models : ℕ → DataModel) (p : Peer) (e : Envelope) (c : AnswerCourse) → AreSane models p.node.config (by_answer_course p e c).notices
-sane_answer models p e answers.Ignored = tt
-sane_answer models p e (answers.Passed next h) = tt
-sane_answer models p e answers.Mine = tt
+sane_ends_head : (models : ℕ → DataModel) (now : ℕ) (p : Peer) (from : NodeId) (id : ℕ) → AreSane models p.node.config (ends p now from id).notices
+unfolding ends
+sane_ends_head models now p from id = tt
+
+sane_answer : (words : SignerWords) (models : ℕ → DataModel) (now : ℕ) (p : Peer) (from : NodeId) (e : Envelope) (c : AnswerCourse) → AreSane models p.node.config (by_answer_course words p now from e c).notices
+sane_answer words models now p from e answers.Ignored = tt
+sane_answer words models now p from e (answers.Passed next h) = tt
+sane_answer words models now p from e answers.Mine =
+    sane_if models p.node.config (is_ended_by (message_in p.node.config words e) from e p.txns) _ _ (sane_ends_head models now p from e.header.id) tt
 
 sane_reaction : (words : SignerWords) (models : ℕ → DataModel) (now : ℕ) (p : Peer) (from : NodeId) (size : ℕ) (e : Envelope) → HasModels models p.node.config → IsRead p.node.config (message_in p.node.config words e)
     → AreSane models p.node.config (reaction words p now from size e).notices
 unfolding reaction
 sane_reaction words models now p from size e has is =
-    sane_if models p.node.config (is_answer e) _ _ (sane_answer models p e (answer_course p.node.about.node.0 e.header))
+    sane_if models p.node.config (is_answer e) _ _ (sane_answer words models now p from e (answer_course p.node.about.node.0 e.header))
     (sane_course words models now p from e (course from p.tables (state_of p.membership) size e.header) has is)
 
 sane_opened : (words : SignerWords) (models : ℕ → DataModel) (now : ℕ) (p : Peer) (from : NodeId) (message : List ℕ) (o : Option Envelope) → AreBytes message → HasModels models p.node.config → heard_in p.node.config message ≡ o
-    → AreSane models p.node.config (option_map_or (reaction words p now from (length message)) o (sends p None)).notices
+    → AreSane models p.node.config (option_map_or (reaction words p now from (length message)) o (sends p [])).notices
 sane_opened words models now p from message None are has at = tt
 sane_opened words models now p from message (Some e) are has at = sane_reaction words models now p from (length message) e has (read_in p.node.config words message e are at)
 
@@ -130,7 +137,7 @@ IsByteCause (Commanded command) = Unit {0}
 
 sane_peer : (words : SignerWords) (models : ℕ → DataModel) (now : ℕ) (cause : Cause) (p : Peer) → IsByteCause cause → HasModels models p.node.config
     → AreSane models p.node.config (peer_step words now cause p).outputs.notices
-unfolding idles
+unfolding idles peers.clocked
 sane_peer words models now (Framed from bytes) p are has = sane_framed words models now from bytes p are has
 sane_peer words models now Clocked p are has = tt
 sane_peer words models now (Commanded command) p are has = tt

@@ -20,7 +20,7 @@ pub data TellsAnswers (told : List Notice) : Type 0 where
   Answer : (id : ℕ) (what : Told) → told ≡ notices.Answered id what ∷ [] → TellsAnswers told
   Ends : (ids : List ℕ) → told ≡ map notices.TimedOut ids → TellsAnswers told
 
-tells_taken : (c : Client) (now : ℕ) (from : NodeId) (id : ℕ) (o : Option Told) → TellsAnswers (option_map_or (takes c now from id) o (sends c None)).notices
+tells_taken : (c : Client) (now : ℕ) (from : NodeId) (id : ℕ) (o : Option Told) → TellsAnswers (option_map_or (takes c now from id) o (sends c [])).notices
 unfolding takes
 tells_taken c now from id None = Nothing refl
 tells_taken c now from id (Some told) = Answer id told refl
@@ -39,7 +39,7 @@ unfolding reaction
 tells_reaction words c now from e =
     tells_if (is_answer e) _ _ (tells_course words c now from e (answer_course c.node.about.node.0 e.header)) (Nothing refl)
 
-tells_opened : (words : SignerWords) (c : Client) (now : ℕ) (from : NodeId) (o : Option Envelope) → TellsAnswers (option_map_or (reaction words c now from) o (sends c None)).notices
+tells_opened : (words : SignerWords) (c : Client) (now : ℕ) (from : NodeId) (o : Option Envelope) → TellsAnswers (option_map_or (reaction words c now from) o (sends c [])).notices
 tells_opened words c now from None = Nothing refl
 tells_opened words c now from (Some e) = tells_reaction words c now from e
 

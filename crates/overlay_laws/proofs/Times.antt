@@ -10,7 +10,8 @@ use Rattle.node_messages.specs.Signed.{SignerWords}
 use Rattle.storage_model.specs.Decisions.{Decision}
 use Rattle.node_model.specs.declared.command.Command.{Command}
 use Rattle.node_model.specs.Nodes.{Step, Cause, Framed, Clocked, Commanded}
-use Rattle.node_model.specs.Peers.{Peer, Reaction, idles, peer_step, effect_at}
+use Rattle.node_model.specs.Peers.{Peer, Reaction, peer_step, effect_at}
+use Rattle.node_model.specs.Peers as peers
 use Rattle.node_model.specs.Clients.{is_busy, client_step}
 use Rattle.run_model.specs.declared.flight.Flight.{Flight}
 use Rattle.run_model.specs.declared.flight.Fate.TheVariants.{Delivered, Lost}
@@ -29,15 +30,15 @@ use Rattle.overlay_laws.proofs.OneMap.{decided, decided_none, decided_one, decid
 -- ---- a node
 
 at_deed : (config : Config) (n now : ℕ) (p : Peer) (x : Reaction) → Deed now p x → AreAt now (decided config (map (Tells n) x.notices))
-at_deed config n now p x (Silent records nothing) = subst (AreAt now) (sym (decided_none config n x.notices nothing)) tt
-at_deed config n now p x (Decides r origin id q own records one) =
+at_deed config n now p x (Silent still records nothing) = subst (AreAt now) (sym (decided_none config n x.notices nothing)) tt
+at_deed config n now p x (Decides r origin id q still own records one) =
     subst (AreAt now) (sym (decided_one config n now r origin id q (effect_at p now r origin id q) x.notices one)) (refl, tt)
 
 -- what a node decides at a clock, it decides at that clock
 at_step : (words : SignerWords) (cause : Cause) (config : Config) (n now : ℕ) (a : Actor) → AreAt now (decided config (map (Tells n) (acts words now cause a).outputs.notices))
 at_step words cause config n now (APeer p) =
     let s : Step Peer = peer_step words now cause p in
-    at_deed config n now p (record { records = s.node.records; post = None; notices = s.outputs.notices }) (acts_peer words now cause p).deed
+    at_deed config n now p (record { peer = s.node; posts = []; notices = s.outputs.notices }) (acts_peer words now cause p).deed
 at_step words cause config n now (AClient c) =
     subst (AreAt now) (sym (decided_answers config n (client_step words now cause c).outputs.notices (tells_client words now cause c))) tt
 
@@ -128,7 +129,7 @@ stays_told_time words (n ∷ ns) w =
 
 -- nothing is decided by a node that is told of the time
 none_decided : (words : SignerWords) (config : Config) (n : ℕ) (w : World) (o : Option Actor) → decided config (option_map_or (λ a. after_step n w (acts words w.clock Clocked a)) o (quiet w)).happened ≡ []
-unfolding after_step idles
+unfolding after_step peers.clocked
 none_decided words config n w None = refl
 none_decided words config n w (Some (APeer p)) = refl
 none_decided words config n w (Some (AClient c)) =

@@ -1,10 +1,10 @@
 -- How often records changed.
-use Rattle.std.proofs.Common.{◌≡◌, ℕ, ◌+◌, ◌^◌, ◌<◌, ◌≤◌, Option, unwrap_or, refl, sym, ap, subst, arith}
+use Rattle.std.proofs.Common.{ℕ, ◌+◌, ◌^◌, ◌<◌, ◌≤◌, Option, unwrap_or, sym, ap, subst, arith}
 use Rattle.std.specs.Ordering.{nat_cmp}
 use Rattle.std.specs.FinMap.{empty, get-empty}
 use Rattle.data_models.specs.declared.config.Config.{Config}
 use Rattle.storage_model.specs.declared.answer.Answer.TheVariants.{Joined}
-use Rattle.storage_model.specs.Records.{Map, Record, KindEntry, record_in, kind_in, empty_record, empty_kind}
+use Rattle.storage_model.specs.Records.{Map, Record, KindEntry, record_in, empty_record, empty_kind}
 use Rattle.storage_model.specs.Decisions.{Decision, changed}
 use Rattle.storage_model.specs.Laws.{IsSoundAsked, IsWithin}
 use Rattle.storage_model.proofs.Counters.{counters_bounded}

@@ -1,5 +1,5 @@
 -- A question that is asked is decided as its message says.
-use Rattle.std.proofs.Common.{◌≡◌, ℕ, List, [], ◌∷◌, refl, ap, sym, ◌∙◌}
+use Rattle.std.proofs.Common.{◌≡◌, ℕ, List, [], ◌∷◌, refl, ap, ◌∙◌}
 use Rattle.reload_ids.specs.declared.NodeId.{NodeId}
 use Rattle.reload_ids.specs.declared.ResourceId.{ResourceId}
 use Rattle.forwarding_header.specs.declared.header.Header.{Header}
@@ -34,7 +34,7 @@ decides_is words p now from h resource m origin request answer a b c =
 -- what leaves and is told of a decision
 pub outputs_are : (words : SignerWords) (p : Peer) (now : ℕ) (from : NodeId) (sequence : ℕ) (q : Question)
     → answer_outputs words p.node p.tables now from sequence q (effect_on p.records p.node.config now q).answer (effect_on p.records p.node.config now q).acted
-    ≡ (heard_with from sequence (decided_on words p now from q) p).outputs
+    ≡ (heard_with from sequence (decided_on words p now from q)).outputs
 unfolding answer_outputs heard_with decided_on
 outputs_are words p now from sequence q = refl
 

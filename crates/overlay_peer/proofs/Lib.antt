@@ -1,4 +1,6 @@
 pub mod Sendings
+pub mod Queues
+pub mod Heads
 pub mod Counts
 pub mod Keeping
 pub mod Deciding

@@ -1,5 +1,5 @@
 -- What always holds of a peer.
-use Rattle.std.specs.Prelude.{ℕ, ◌≡◌, refl}
+use Rattle.std.specs.Prelude.{ℕ, ◌+◌, ◌≤◌, ◌≡◌, refl}
 use Rattle.std.specs.Ordering.{nat_cmp}
 use Rattle.std.specs.FinMap as map
 use Rattle.std.specs.Coded.{Coded, code_by, coded×, coded_ℕ}
@@ -11,16 +11,20 @@ use Rattle.kind_store.specs.Codes.{record_code}
 use Rattle.transaction_table.specs.Tables.{Txns}
 use Rattle.transaction_table.specs.Codes.{txns_code}
 use Rattle.node_links.specs.Kept.{node_code}
+use Rattle.node_links.specs.Small.{AreAllSmall}
 use Rattle.node_model.specs.Nodes.{Node, me}
 use Rattle.node_model.specs.Peers as model
 use Rattle.overlay_peer.specs.declared.membership.Membership.{Membership}
 use Rattle.overlay_peer.specs.Memberships.{membership_of}
 use Rattle.overlay_peer.specs.Codes.{membership_code}
 
--- A node's tables are its own, and it handled at least as many inputs as any record changed.
-pub record IsKept (n : Node) (tables : Tables) (records : Map) : Type 0 where
+-- A node's tables are its own, it handled at least as many inputs as any record changed, and it has
+-- no more transactions than it used ids, whose messages aren't too large.
+pub record IsKept (n : Node) (tables : Tables) (records : Map) (t : Txns) : Type 0 where
   pub me : tables.me ≡ me n
   pub within : (resource : ℕ) → IsWithin n.inputs (record_in records resource)
+  pub few : map.len t.outboxes + map.len t.issued ≤ n.ids
+  pub small : AreAllSmall t
 
 -- a peer of these fields
 abbrev pub peer_of : Node → Membership → Tables → Map → Txns → map.FinMap nat_cmp ℕ

@@ -3,8 +3,7 @@
 ghost use Rattle.std.specs.Prelude.{◌≡◌, ◌+◌, ◌≤◌, ℕ, length, IfOk};
 ghost use Rattle.wire_core.specs.declared.limits.TheConstants.{MAX_MESSAGE};
 ghost use Rattle.forwarding_header.specs.Header.{header, IsSpelledHeader, IsHeaderInRange};
-ghost use Rattle.node_messages.specs.Signed.{SignerWords};
-ghost use Rattle.reload_ids.specs.declared.NodeId.{NodeId};
+ghost use Rattle.node_messages.specs.Signed.{words_of};
 ghost use Rattle.node_model.specs.Nodes.{me};
 ghost use Rattle.node_model.specs.Ways as ways;
 ghost use Rattle.node_model.specs.Peers as model;
@@ -17,24 +16,28 @@ use message_courses::{Envelope, answer_course};
 use node_links::Sending;
 use node_model::AnswerCourse;
 use reload_base::NoMemory;
+use reload_ids::NodeId;
+use security_block::Signer;
 use std::alloc::Global;
 
 impl Peer {
-    /// An answer goes on along its destination list. This profile's peers ask nothing themselves
-    /// yet.
-    pub(crate) fn plan_answer<'a>(
+    /// An answer goes on along its destination list, or may end what the peer itself sent.
+    pub(crate) fn plan_answer<'a, G: Signer>(
         &self,
         alloc: Global,
+        signer: &G,
+        from: NodeId,
         e: Envelope<'a>,
     ) -> Result<Plan<'a>, NoMemory>
         requires is_spelled { IsSpelledHeader e.header }
         requires in_range { IsHeaderInRange e.header }
         requires within { length (header e.header) + length e.behind.now ≤ MAX_MESSAGE }
-        ensures exact { (words : SignerWords) (now : ℕ) (from : NodeId)
-            → IfOk result (λ plan. planned words self.now now from plan
-            ≡ model.by_answer_course self.now (seen e.entry)
+        ensures exact { let words = words_of G.certificate_of G.signature_of G.about_of G.verifies
+            signer.now
+            in (now : ℕ) → IfOk result (λ plan. planned words self.now now from plan
+            ≡ model.by_answer_course words self.now now from (seen e.entry)
             (ways.answer_course (me self.now.node) e.entry.header)) }
-        ensures fits { IfOk result (IsPlan self.now) }
+        ensures fits { IfOk result (IsPlan self.now from) }
     {
         let course = answer_course(alloc, self.node.me(), &e.header)?;
         match course {
@@ -43,7 +46,8 @@ impl Peer {
                 header,
                 behind: e.behind,
             }))),
-            AnswerCourse::Mine | AnswerCourse::Ignored => Ok(Plan::Send(None)),
+            AnswerCourse::Mine => self.plan_own(alloc, signer, from, &e),
+            AnswerCourse::Ignored => Ok(Plan::Send(None)),
         }
     }
 }

@@ -1,6 +1,6 @@
 //! Decisions of a peer.
 
-ghost use Rattle.std.specs.Prelude.{◌≡◌, ◌^◌, ◌<◌, ◌∷◌, ℕ, [], Some, Option, IfOk, OnOk, OnErr};
+ghost use Rattle.std.specs.Prelude.{◌≡◌, ◌^◌, ◌<◌, ◌∷◌, ℕ, [], Option, IfOk, OnOk, OnErr};
 ghost use Rattle.storage_model.specs.Laws.{IsSoundAsked};
 ghost use Rattle.storage_model.specs.Records.{Map};
 ghost use Rattle.node_messages.specs.Signed.{words_of};
@@ -107,8 +107,8 @@ fn answer<G: Signer>(
         question ruling.answer ruling.acted) }
     ensures node { let words = words_of G.certificate_of G.signature_of G.about_of G.verifies
         signer.now
-        in OnOk result (node.new ≡ node_after from sequence (Some (answer_post words node.old
-        tables.now from question.reply ruling.answer)) node.old) }
+        in OnOk result (node.new ≡ node_after from sequence (answer_post words node.old
+        tables.now from question.reply ruling.answer ∷ []) node.old) }
     ensures err { OnErr result (node.new ≡ node.old) }
 {
     let Question {
@@ -143,11 +143,11 @@ impl Peer {
         ensures outputs { let words = words_of G.certificate_of G.signature_of G.about_of G.verifies
             signer.now
             in IfOk result (λ out. out ≡ (heard_with from sequence
-            (decided_on words self.old now from question) self.old).outputs) }
+            (decided_on words self.old now from question)).outputs) }
         ensures peer { let words = words_of G.certificate_of G.signature_of G.about_of G.verifies
             signer.now
             in OnOk result (self.new ≡ (heard_with from sequence
-            (decided_on words self.old now from question) self.old).node) }
+            (decided_on words self.old now from question)).node) }
         ensures err { OnErr result (self.new ≡ self.old) }
     {
         let (ruling, undo) = rule_on_with_undo(

@@ -1,7 +1,7 @@
 //! Frames that a peer hears.
 
 ghost use Rattle.std.specs.Prelude.{◌≡◌, ◌^◌, ◌<◌, ℕ, IfOk, IfSome, OnOk, OnErr};
-ghost use Rattle.std.specs.Option.{option_map};
+ghost use Rattle.std.specs.Option.{option_map, option_to_list};
 ghost use Rattle.node_messages.specs.Signed.{words_of};
 ghost use Rattle.node_links.specs.Sendings.{post_of, IsSending};
 ghost use Rattle.node_model.specs.declared.limits.TheConstants.{MAX_LOAD};
@@ -32,13 +32,13 @@ impl Peer {
             signer.now
             in (now : ℕ) → IfOk result (λ plan. planned words self.now now from plan
             ≡ model.reaction_to words self.now now from message.now) }
-        ensures fits { IfOk result (IsPlan self.now) }
+        ensures fits { IfOk result (IsPlan self.now from) }
     {
         let Some(e) = heard_in(alloc, self.node.overlay(), message)? else {
             return Ok(Plan::Send(None));
         };
         if is_answer(e.code) {
-            self.plan_answer(alloc, e)
+            self.plan_answer(alloc, signer, from, e)
         } else {
             self.plan_request(alloc, signer, from, message.len() as u64, e)
         }
@@ -56,9 +56,9 @@ impl Peer {
         requires light { model.load self.old < MAX_LOAD }
         requires fits { IfSome sending IsSending }
         ensures outputs { IfOk result (λ out. out ≡ (heard_with from sequence
-            (model.sends self.old (option_map post_of sending.entry)) self.old).outputs) }
+            (model.sends self.old (option_to_list (option_map post_of sending.entry)))).outputs) }
         ensures peer { OnOk result (self.new ≡ (heard_with from sequence
-            (model.sends self.old (option_map post_of sending.entry)) self.old).node) }
+            (model.sends self.old (option_to_list (option_map post_of sending.entry)))).node) }
         ensures err { OnErr result (self.new ≡ self.old) }
     {
         let frames = self.node.hear(alloc, from, sequence, sending)?;
@@ -83,16 +83,17 @@ impl Peer {
         ensures outputs { let words = words_of G.certificate_of G.signature_of G.about_of G.verifies
             signer.now
             in IfOk result (λ out. out ≡ (heard_with from sequence
-            (model.reaction_to words self.old now from message.now) self.old).outputs) }
+            (model.reaction_to words self.old now from message.now)).outputs) }
         ensures peer { let words = words_of G.certificate_of G.signature_of G.about_of G.verifies
             signer.now
             in OnOk result (self.new ≡ (heard_with from sequence
-            (model.reaction_to words self.old now from message.now) self.old).node) }
+            (model.reaction_to words self.old now from message.now)).node) }
         ensures err { OnErr result (self.new ≡ self.old) }
     {
         match self.plan(alloc, signer, from, message)? {
             Plan::Send(sending) => self.send(alloc, from, sequence, sending),
             Plan::Decide(question) => self.decide(alloc, now, from, sequence, signer, question),
+            Plan::End(id) => self.end(alloc, now, from, sequence, id),
         }
     }
 

@@ -3,7 +3,9 @@
 #![tactic(auto)]
 
 mod answer;
+mod clock;
 mod decision;
+mod ending;
 mod hearing;
 mod membership;
 mod peer;

@@ -34,7 +34,7 @@ pub struct Peer {
     pub(crate) membership: Membership,
     pub(crate) tables: Tables,
     pub(crate) shelf: Shelf,
-    table: Table,
+    pub(crate) table: Table,
     taken: NumberTable<u64>,
     queued: NumberTable<u64>,
 }
@@ -49,7 +49,7 @@ impl Model for Peer {
 
     ghost view = { λ p. peer_of p.node p.membership p.tables p.shelf p.table p.taken p.queued };
 
-    ghost invariant = { λ p. IsKept p.node p.tables p.shelf };
+    ghost invariant = { λ p. IsKept p.node p.tables p.shelf p.table };
 }
 
 impl Peer {
@@ -135,7 +135,8 @@ impl Peer {
     {
         match input {
             Input::Frame { from, bytes } => self.hear_frame(alloc, now, from, bytes, signer),
-            Input::Clock | Input::Command(_) => Ok(self.pass_over(alloc)),
+            Input::Clock => self.clocked(alloc, now),
+            Input::Command(_) => Ok(self.pass_over(alloc)),
         }
     }
 

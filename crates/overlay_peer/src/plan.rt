@@ -23,7 +23,7 @@ pub(crate) struct Question {
 ///
 /// ```text
 /// not one of this overlay, or a long way ──▶ nothing
-/// an answer   ──▶ passed on, or nothing
+/// an answer   ──▶ passed on, or it ends the head of an outbox, or nothing
 /// a request   ──▶ dropped │ refused │ passed on │ handled here
 /// handled     ──▶ a critical option is refused
 ///                 a Store, Fetch or Join of a resource that the peer owns is decided
@@ -34,4 +34,7 @@ pub(crate) enum Plan<'a> {
     /// It sends this, if anything.
     Send(Option<Sending<'a>>),
     Decide(Question),
+    /// The message with this transaction id heads the outbox to the node that the answer came from,
+    /// and has its answer.
+    End(u64),
 }

@@ -45,7 +45,7 @@ impl Peer {
             signer.now
             in (now : ℕ) → IfOk result (λ plan. planned words self.now now from plan
             ≡ model.refuses words self.now from header.now cause) }
-        ensures fits { IfOk result (IsPlan self.now) }
+        ensures fits { IfOk result (IsPlan self.now from) }
     {
         let reply_to = reply_header(alloc, from, header)?;
         let body = refusal_body(alloc, cause);
@@ -70,7 +70,7 @@ impl Peer {
             in (now code : ℕ) → IfOk result (λ plan. planned words self.now now from plan
             ≡ model.decides words self.now now from header.now resource
             (message_of header.now code behind)) }
-        ensures fits { IfOk result (IsPlan self.now) }
+        ensures fits { IfOk result (IsPlan self.now from) }
     {
         let origin = origin_of(&behind);
         let request = asked_in(alloc, self.node.config(), signer, resource, header, behind)?;
@@ -98,7 +98,7 @@ impl Peer {
             signer.now
             in (now : ℕ) → IfOk result (λ plan. planned words self.now now from plan
             ≡ model.handled words self.now now from resource (seen e.now)) }
-        ensures fits { IfOk result (IsPlan self.now) }
+        ensures fits { IfOk result (IsPlan self.now from) }
     {
         if any_has(DESTINATION_CRITICAL, &e.header) {
             let cause = Refusal::UnsupportedForwardingOption;
@@ -135,7 +135,7 @@ impl Peer {
             signer.now
             in (now : ℕ) → IfOk result (λ plan. planned words self.now now from plan
             ≡ model.by_course words self.now now from (seen e.entry) course) }
-        ensures fits { IfOk result (IsPlan self.now) }
+        ensures fits { IfOk result (IsPlan self.now from) }
     {
         match course {
             Course::Dropped => Ok(Plan::Send(None)),
@@ -167,7 +167,7 @@ impl Peer {
             in (now : ℕ) → IfOk result (λ plan. planned words self.now now from plan
             ≡ model.by_course words self.now now from (seen e.entry) (courses.course from
             self.now.tables (model.state_of self.now.membership) size e.entry.header)) }
-        ensures fits { IfOk result (IsPlan self.now) }
+        ensures fits { IfOk result (IsPlan self.now from) }
     {
         let course = course(alloc, from, &self.tables, self.state(), size, &e.header)?;
         self.plan_course(alloc, signer, from, course, e)

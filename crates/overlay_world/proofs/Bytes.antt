@@ -52,8 +52,9 @@ posts_some links (p ∷ ps) =
 peer_hears : (words : SignerWords) (now : ℕ) (from : NodeId) (sequence : ℕ) (message : List ℕ) (p : peers.Peer) → All HasBytes (peers.hears words now from sequence message p).outputs.frames
 unfolding peers.hears
 peer_hears words now from sequence message p =
-    let post = (peers.reaction_to words p now from message).post in
-    All-cons HasBytes (ack_to from sequence p.node.links) (frames_of p.node.links post) (ack_some from sequence p.node.links) (post_some p.node.links post)
+    let r = peers.reaction_to words p now from message in
+    let links = r.peer.node.links in
+    All-cons HasBytes (ack_to from sequence links) (frames_of_all links r.posts) (ack_some from sequence links) (posts_some links r.posts)
 
 peer_idles : (p : peers.Peer) → All HasBytes (peers.idles p).outputs.frames
 unfolding peers.idles
@@ -71,9 +72,13 @@ peer_framed words now from bytes p =
       | false ↦ peer_payload words now from p (payload_in bytes)
     ]
 
+peer_clocked : (now : ℕ) (p : peers.Peer) → All HasBytes (peers.clocked now p).outputs.frames
+unfolding peers.clocked
+peer_clocked now p = posts_some p.node.links _
+
 peer_some : (words : SignerWords) (now : ℕ) (cause : Cause) (p : peers.Peer) → All HasBytes (peers.peer_step words now cause p).outputs.frames
 peer_some words now (Framed from bytes) p = peer_framed words now from bytes p
-peer_some words now Clocked p = peer_idles p
+peer_some words now Clocked p = peer_clocked now p
 peer_some words now (Commanded command) p = peer_idles p
 
 -- ---- clients
@@ -81,8 +86,8 @@ peer_some words now (Commanded command) p = peer_idles p
 client_hears : (words : SignerWords) (now : ℕ) (from : NodeId) (sequence : ℕ) (message : List ℕ) (c : clients.Client) → All HasBytes (clients.hears words now from sequence message c).outputs.frames
 unfolding clients.hears
 client_hears words now from sequence message c =
-    let post = (clients.reaction_to words c now from message).post in
-    All-cons HasBytes (ack_to from sequence c.node.links) (frames_of c.node.links post) (ack_some from sequence c.node.links) (post_some c.node.links post)
+    let posts = (clients.reaction_to words c now from message).posts in
+    All-cons HasBytes (ack_to from sequence c.node.links) (frames_of_all c.node.links posts) (ack_some from sequence c.node.links) (posts_some c.node.links posts)
 
 client_idles : (c : clients.Client) → All HasBytes (clients.idles c).outputs.frames
 unfolding clients.idles

@@ -1,5 +1,4 @@
-use Rattle.std.proofs.Common.{◌≡◌, sym, subst}
-use Rattle.storage_model.specs.Records.{Map}
+use Rattle.std.proofs.Common.{subst}
 use Rattle.kind_store.specs.Undoing.{TakesBack}
 use Rattle.overlay_peer.proofs.decision.take_back.Goals as goal
 

@@ -1,4 +1,3 @@
-use Rattle.std.specs.Prelude.{[]}
 use Rattle.node_messages.specs.Signed.{words_of}
 use Rattle.overlay_peer.proofs.Sendings.{made_within}
 use Rattle.overlay_peer.proofs.reply.reply.Goals as goal

@@ -1,4 +1,4 @@
-use Rattle.std.proofs.Common.{◌≡◌, Some, ap, sym, subst, ◌∙◌}
+use Rattle.std.proofs.Common.{◌≡◌, [], ◌∷◌, ap, sym, subst, ◌∙◌}
 use Rattle.data_models.specs.declared.config.Config.{Config}
 use Rattle.storage_model.specs.declared.answer.Answer.{Answer}
 use Rattle.storage_model.specs.Records.{Map}
@@ -16,40 +16,40 @@ pub invariant_of-self-in-Ok : goal.invariant_of-self-in-Ok
 invariant_of-self-in-Ok g c =
     let words = words_of g.G.Signer.certificate_of g.G.Signer.signature_of g.G.Signer.about_of g.G.Signer.verifies c.args.signer.now in
     let own : c.args.self.now.node.config ≡ c.config.result.now = sym (c.config.ensures ∙ ap (λ (p : Peer). p.node.config) c.self.view_is) in
-    kept_decided c.args.from c.args.sequence (Some (answer_post words c.self.inside.node c.self.inside.tables c.args.from c.args.question.reply c.in_ok-ruling.ruling.answer))
-    c.self.inside.node c.answer.new.node c.self.inside.tables c.self.inside.shelf c.rule_on_with_undo.new.shelf c.config.result.now c.args.now c.args.question
+    kept_decided c.args.from c.args.sequence (answer_post words c.self.inside.node c.self.inside.tables c.args.from c.args.question.reply c.in_ok-ruling.ruling.answer ∷ [])
+    c.self.inside.node c.answer.new.node c.self.inside.tables c.self.inside.shelf c.rule_on_with_undo.new.shelf c.self.inside.table c.config.result.now c.args.now c.args.question
     c.in-Ok.ensures.node c.in_ok-ruling.ensures.shelf (subst (λ (k : Config). IsSoundAsked k c.args.question.request) own c.requires.sound) c.self.invariant
 
 pub invariant_of-self-in-Ok-2 : goal.invariant_of-self-in-Ok-2
 invariant_of-self-in-Ok-2 g c =
     let words = words_of g.G.Signer.certificate_of g.G.Signer.signature_of g.G.Signer.about_of g.G.Signer.verifies c.args.signer.now in
     let own : c.args.self.now.node.config ≡ c.config.result.now = sym (c.config.ensures ∙ ap (λ (p : Peer). p.node.config) c.self.view_is) in
-    kept_decided c.args.from c.args.sequence (Some (answer_post words c.self.inside.node c.self.inside.tables c.args.from c.args.question.reply c.in_ok-ruling.ruling.answer))
-    c.self.inside.node c.answer.new.node c.self.inside.tables c.self.inside.shelf c.rule_on_with_undo.new.shelf c.config.result.now c.args.now c.args.question
+    kept_decided c.args.from c.args.sequence (answer_post words c.self.inside.node c.self.inside.tables c.args.from c.args.question.reply c.in_ok-ruling.ruling.answer ∷ [])
+    c.self.inside.node c.answer.new.node c.self.inside.tables c.self.inside.shelf c.rule_on_with_undo.new.shelf c.self.inside.table c.config.result.now c.args.now c.args.question
     c.in-Ok.ensures.node c.in_ok-ruling.ensures.shelf (subst (λ (k : Config). IsSoundAsked k c.args.question.request) own c.requires.sound) c.self.invariant
 
 pub invariant_of-self-in-Ok-3 : goal.invariant_of-self-in-Ok-3
 invariant_of-self-in-Ok-3 g c =
     let words = words_of g.G.Signer.certificate_of g.G.Signer.signature_of g.G.Signer.about_of g.G.Signer.verifies c.args.signer.now in
     let own : c.args.self.now.node.config ≡ c.config.result.now = sym (c.config.ensures ∙ ap (λ (p : Peer). p.node.config) c.self.view_is) in
-    kept_decided c.args.from c.args.sequence (Some (answer_post words c.self.inside.node c.self.inside.tables c.args.from c.args.question.reply c.in_ok-ruling.ruling.answer))
-    c.self.inside.node c.answer.new.node c.self.inside.tables c.self.inside.shelf c.rule_on_with_undo.new.shelf c.config.result.now c.args.now c.args.question
+    kept_decided c.args.from c.args.sequence (answer_post words c.self.inside.node c.self.inside.tables c.args.from c.args.question.reply c.in_ok-ruling.ruling.answer ∷ [])
+    c.self.inside.node c.answer.new.node c.self.inside.tables c.self.inside.shelf c.rule_on_with_undo.new.shelf c.self.inside.table c.config.result.now c.args.now c.args.question
     c.in-Ok.ensures.node c.in_ok-ruling.ensures.shelf (subst (λ (k : Config). IsSoundAsked k c.args.question.request) own c.requires.sound) c.self.invariant
 
 pub invariant_of-self-in-Ok-4 : goal.invariant_of-self-in-Ok-4
 invariant_of-self-in-Ok-4 g c =
     let words = words_of g.G.Signer.certificate_of g.G.Signer.signature_of g.G.Signer.about_of g.G.Signer.verifies c.args.signer.now in
     let own : c.args.self.now.node.config ≡ c.config.result.now = sym (c.config.ensures ∙ ap (λ (p : Peer). p.node.config) c.self.view_is) in
-    kept_decided c.args.from c.args.sequence (Some (answer_post words c.self.inside.node c.self.inside.tables c.args.from c.args.question.reply c.in_ok-ruling.ruling.answer))
-    c.self.inside.node c.answer.new.node c.self.inside.tables c.self.inside.shelf c.rule_on_with_undo.new.shelf c.config.result.now c.args.now c.args.question
+    kept_decided c.args.from c.args.sequence (answer_post words c.self.inside.node c.self.inside.tables c.args.from c.args.question.reply c.in_ok-ruling.ruling.answer ∷ [])
+    c.self.inside.node c.answer.new.node c.self.inside.tables c.self.inside.shelf c.rule_on_with_undo.new.shelf c.self.inside.table c.config.result.now c.args.now c.args.question
     c.in-Ok.ensures.node c.in_ok-ruling.ensures.shelf (subst (λ (k : Config). IsSoundAsked k c.args.question.request) own c.requires.sound) c.self.invariant
 
 pub invariant_of-self-in-Ok-5 : goal.invariant_of-self-in-Ok-5
 invariant_of-self-in-Ok-5 g c =
     let words = words_of g.G.Signer.certificate_of g.G.Signer.signature_of g.G.Signer.about_of g.G.Signer.verifies c.args.signer.now in
     let own : c.args.self.now.node.config ≡ c.config.result.now = sym (c.config.ensures ∙ ap (λ (p : Peer). p.node.config) c.self.view_is) in
-    kept_decided c.args.from c.args.sequence (Some (answer_post words c.self.inside.node c.self.inside.tables c.args.from c.args.question.reply c.in_ok-ruling.ruling.answer))
-    c.self.inside.node c.answer.new.node c.self.inside.tables c.self.inside.shelf c.rule_on_with_undo.new.shelf c.config.result.now c.args.now c.args.question
+    kept_decided c.args.from c.args.sequence (answer_post words c.self.inside.node c.self.inside.tables c.args.from c.args.question.reply c.in_ok-ruling.ruling.answer ∷ [])
+    c.self.inside.node c.answer.new.node c.self.inside.tables c.self.inside.shelf c.rule_on_with_undo.new.shelf c.self.inside.table c.config.result.now c.args.now c.args.question
     c.in-Ok.ensures.node c.in_ok-ruling.ensures.shelf (subst (λ (k : Config). IsSoundAsked k c.args.question.request) own c.requires.sound) c.self.invariant
 
 pub take_back-requires : goal.take_back-requires
@@ -58,8 +58,8 @@ take_back-requires g c = (c.self.inside.shelf, c.in_ok-ruling.ensures.undo)
 pub invariant_of-self-in-Err : goal.invariant_of-self-in-Err
 invariant_of-self-in-Err g c =
     let back : c.take_back.new.shelf ≡ c.self.inside.shelf = c.take_back.ensures c.self.inside.shelf c.in_ok-ruling.ensures.undo in
-    subst (λ (n : Node). IsKept n c.self.inside.tables c.take_back.new.shelf) (sym c.in-Err.ensures.err)
-    (subst (λ (s : Map). IsKept c.self.inside.node c.self.inside.tables s) (sym back) c.self.invariant)
+    subst (λ (n : Node). IsKept n c.self.inside.tables c.take_back.new.shelf c.self.inside.table) (sym c.in-Err.ensures.err)
+    (subst (λ (s : Map). IsKept c.self.inside.node c.self.inside.tables s c.self.inside.table) (sym back) c.self.invariant)
 
 pub returns-in-Err-clause-err : goal.returns-in-Err-clause-err
 returns-in-Err-clause-err g c =

@@ -17,7 +17,7 @@ returns-then-is_answer-clause-exact g c = λ now.
     let own : c.overlay.result ≡ overlay_id p.node.config.name = c.overlay.ensures ∙ ap (λ (x : Peer). overlay_id x.node.config.name) c.self.view_is in
     let heard : heard_in p.node.config c.args.message.now ≡ Some (seen c.in-Some.e) = sym (c.in_ok-e.ensures.value p.node.config own) ∙ ap (λ o. option_map seen o) c.in-Some.is in
     let is = reacts_to_answer words p now c.args.from c.args.message.now (seen c.in-Some.e) heard (sym (c.is_answer.ensures (seen c.in-Some.e) refl) ∙ c.if-is_answer.true) in
-    subst (λ (x : Reaction). IfOk c.plan_answer.result (λ plan. planned words p now c.args.from plan ≡ x)) (sym is) (c.plan_answer.ensures.exact words now c.args.from)
+    subst (λ (x : Reaction). IfOk c.plan_answer.result (λ plan. planned words p now c.args.from plan ≡ x)) (sym is) (c.plan_answer.ensures.exact now)
 
 pub returns-else-is_answer-clause-exact : goal.returns-else-is_answer-clause-exact
 returns-else-is_answer-clause-exact g c = λ now.
