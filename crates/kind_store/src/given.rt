@@ -78,9 +78,10 @@ fn held_at<'a>(slots: &'a Slots, key: &[u8]) -> Option<&'a Held>
     }
 }
 
-/// A value that is held, as a Fetch gives it. The one copy of its bytes is made here.
+/// A value that is held, expired or not, as it is given at a key, with the rest of its lifetime. The
+/// one copy of its bytes is made here.
 #[tactic(auto, unfolding(storage_model::specs::Fetches::found_of))]
-fn found(alloc: Global, now: u64, key: SlotKey, held: &Held) -> Result<StoredData, NoMemory>
+pub fn found(alloc: Global, now: u64, key: SlotKey, held: &Held) -> Result<StoredData, NoMemory>
     ensures { IfOk result (λ found. found ≡ fetches.found_of now key held.now) }
 {
     Ok(StoredData {

@@ -13,6 +13,7 @@ mod shelf;
 mod soundness;
 mod undo;
 
+pub use given::found;
 pub use record::Record;
 pub use shelf::Shelf;
 pub use soundness::{sound, sound_fetch};

@@ -123,6 +123,13 @@ impl Record {
         self.kinds.records(alloc)
     }
 
+    /// The kinds as they are held.
+    pub fn kinds_held(&self) -> &Kinds
+        ensures { result.now ≡ self.now.kinds }
+    {
+        &self.kinds
+    }
+
     /// What the kinds weigh, in this profile's bytes: at most `MAX_WEIGHT`.
     pub(crate) fn weight(&self) -> u64
         ensures value { result ≡ weight self.now.kinds }

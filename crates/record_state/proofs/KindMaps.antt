@@ -1,6 +1,6 @@
 -- Kinds as a map, and what they weigh.
 use lib.Dec.{T}
-use Rattle.std.proofs.Common.{◌≡◌, ◌<◌, ℕ, ◌+◌, ◌*◌, ◌≤◌, ◌-◌, ◌^◌, true, false, cond, List, [], ◌∷◌, refl, ap, sym, subst, ◌∙◌, length, arith, min}
+use Rattle.std.proofs.Common.{◌≡◌, ◌<◌, ℕ, ◌+◌, ◌*◌, ◌≤◌, ◌^◌, true, false, cond, List, [], ◌∷◌, refl, ap, sym, subst, ◌∙◌, arith, min}
 use Rattle.std.specs.Prelude.{Option, Some, None, is_some, sum_by}
 use Rattle.std.specs.Option.{option_map_or}
 use Rattle.std.specs.Ordering.{nat_cmp, eq_by_cmp}
@@ -9,7 +9,7 @@ use Rattle.std.proofs.lemmas.List.Sums.{sum_by-cons}
 use Rattle.std.specs.FinMap.{nat_cmp-IsAntisymmetric, entries, empty, get, insert, remove, len, entries_sorted, entries-insert, get-entries, get-empty, get-insert, get-remove, len-entries, put}
 use Rattle.storage_model.specs.declared.limits.TheConstants.{KIND_WEIGHT}
 use Rattle.storage_model.specs.Records.{KindEntry, Kinds, kind_weight, slot_weight, weight}
-use Rattle.record_state.specs.Light.{counted, counted_slot, counted_kind, slots_sum, kinds_sum, AreKindIds}
+use Rattle.record_state.specs.Light.{counted, counted_kind, slots_sum, kinds_sum, AreKindIds}
 use Rattle.ordered_tables.proofs.Trees.{sum-put, entries-empty}
 use Rattle.ordered_tables.proofs.Finite.{equal, sum-taken}
 use Rattle.record_state.proofs.SlotMaps.{sum_by-le}

@@ -1,23 +1,21 @@
 -- Kinds and slots that are written down, and put together again.
-use Rattle.std.proofs.Common.{◌≡◌, ℕ, ◌+◌, ◌<◌, true, List, [], ◌∷◌, ◌++◌, refl, ap, sym, subst, ◌∙◌, arith}
+use Rattle.std.proofs.Common.{◌≡◌, ℕ, ◌<◌, true, List, [], ◌∷◌, ◌++◌, refl, ap, sym, subst, ◌∙◌, arith}
 use lib.Dec.{T}
-use Rattle.std.specs.Prelude.{Option, Some, None, is_some, map, fold}
+use Rattle.std.specs.Prelude.{Some, None, is_some, map, fold}
 use Rattle.std.specs.List.{AllByRecursion}
 use Rattle.std.specs.List.Sorted.{IsStrictlySortedBy}
 use Rattle.std.specs.Map.{keys_of}
-use Rattle.std.specs.declared.cmp.Ordering.{Ordering}
-use Rattle.std.specs.declared.cmp.Ordering.TheVariants.{Less, Equal, Greater}
+use Rattle.std.specs.declared.cmp.Ordering.TheVariants.{Less}
 use Rattle.std.specs.Ordering.{nat_cmp, match_ordering, ordering_reverse}
-use Rattle.std.specs.Cmp.{IsTotalOrder, nat_cmp_total, nat_cmp_is}
+use Rattle.std.specs.Cmp.{nat_cmp_total, nat_cmp_is}
 use Rattle.std.specs.Cmp.Lexicographic.{slice_cmp, nat_list_cmp_total}
 use Rattle.std.proofs.lemmas.List.{map-append}
-use Rattle.std.specs.FinMap.{FinMap, nat_cmp-IsAntisymmetric, entries, get, insert, empty, put, is_sorted, from_sorted, entries-from_sorted, entries-insert, same_entries_map}
+use Rattle.std.specs.FinMap.{entries, get, insert, empty, put, is_sorted, entries-from_sorted, entries-insert, same_entries_map}
 use Rattle.storage_model.specs.declared.record.Slot.{Slot}
 use Rattle.storage_model.specs.declared.record.KindRecord.{KindRecord}
 use Rattle.storage_model.specs.Records.{SlotEntry, Slots, KindEntry, Kinds}
 use Rattle.record_state.specs.Written.{slot_record, slot_records, kind_record, kind_records, slot_entry, slots_written, kind_written, HaveRisingKeys, Follows}
 use Rattle.ordered_tables.proofs.Trees.{sorted, same_shown, append_none, entries-empty, copied_more, found_all}
-use Rattle.ordered_tables.proofs.KeyMaps.{key_cmp_same}
 
 -- slots that are put one after the other, by rising key
 abbrev pub with_listed : Slots → Slot → Slots

@@ -1,12 +1,12 @@
 -- What there is of a kind that isn't there.
-use Rattle.std.proofs.Common.{◌≡◌, ◌<◌, ◌≤◌, ◌+◌, ℕ, List, [], refl, ap, sym, ◌∙◌, arith, min}
-use Rattle.std.specs.Prelude.{Option, Some, None, unwrap_or, nat_lt, map}
+use Rattle.std.proofs.Common.{◌≡◌, ◌+◌, ℕ, List, ap, sym, ◌∙◌, arith, min}
+use Rattle.std.specs.Prelude.{None, unwrap_or, nat_lt, map}
 use Rattle.std.specs.Option.{option_map_or}
 use Rattle.std.specs.List.{last_or}
 use Rattle.std.specs.Int.{w32, from_be_bytes}
 use Rattle.std.specs.Ordering.{nat_cmp}
 use Rattle.std.specs.Cmp.Lexicographic.{slice_cmp}
-use Rattle.std.specs.FinMap.{get, empty, len, get-empty, len-empty}
+use Rattle.std.specs.FinMap.{get, len, get-empty, len-empty}
 use Rattle.storage_model.specs.Records.{SlotEntry, Kinds, kind_in, slot_in, next_index, empty_kind, empty_slot}
 use Rattle.ordered_tables.proofs.Trees.{entries-empty}
 use Rattle.std.proofs.lemmas.Bool.Decides.{nat_tests}

@@ -1,10 +1,10 @@
 -- Values that have a slot, and those that are appended.
-use Rattle.std.proofs.Common.{◌≡◌, ℕ, ◌+◌, Bool, true, false, cond, List, [], ◌∷◌, ◌++◌, refl, ap, sym, subst, ◌∙◌}
-use Rattle.std.specs.Prelude.{fold, filter, not, ◌&&◌, ◌||◌, map, if◌then◌else◌}
+use Rattle.std.proofs.Common.{◌≡◌, ℕ, Bool, true, false, cond, List, [], ◌∷◌, refl, ap, ◌∙◌}
+use Rattle.std.specs.Prelude.{fold, not, ◌&&◌, ◌||◌, if◌then◌else◌}
 use Rattle.std.specs.List.{list_any}
 use Rattle.storage_model.specs.declared.request.Value.{Value}
 use Rattle.storage_model.specs.Records.{Kinds}
-use Rattle.storage_model.specs.Requests.{is_end, placed, appended}
+use Rattle.storage_model.specs.Requests.{is_end, placed}
 use Rattle.storage_model.specs.Puts.{at_keys, slot_of}
 use Rattle.data_models.specs.Stored.{key_of}
 use Rattle.record_state.specs.Undo.{slot_put}

@@ -1,18 +1,17 @@
 -- The values of a kind are put one by one, and then the kind is as the meaning has it.
 use lib.Dec.{T}
-use Rattle.std.proofs.Common.{◌≡◌, ◌≢◌, ◌<◌, ◌^◌, ◌+◌, ℕ, Bool, true, false, cond, List, [], ◌∷◌, ◌++◌, length, zero, suc, get_or, drop, refl, ap, sym, subst, ◌∙◌, arith}
-use Rattle.std.specs.Prelude.{Option, Some, None, is_some, unwrap_or, fold, filter, map, not, ◌==◌, if◌then◌else◌}
+use Rattle.std.proofs.Common.{◌≡◌, ◌<◌, ◌^◌, ◌+◌, ℕ, Bool, true, false, cond, List, [], ◌∷◌, ◌++◌, length, suc, get_or, drop, refl, ap, sym, subst, ◌∙◌, arith}
+use Rattle.std.specs.Prelude.{unwrap_or, map, not, ◌==◌, if◌then◌else◌}
 use Rattle.std.proofs.Math.Seq.{drop-cons}
 use Rattle.std.specs.List.{AllByRecursion}
-use Rattle.std.specs.Ordering.{nat_cmp}
 use Rattle.std.specs.Cmp.{nat_cmp_total}
-use Rattle.std.specs.FinMap.{nat_cmp-IsAntisymmetric, get, insert}
+use Rattle.std.specs.FinMap.{nat_cmp-IsAntisymmetric, insert}
 use Rattle.storage_model.specs.declared.request.Value.{Value}
 use Rattle.storage_model.specs.declared.request.AskedKind.{AskedKind}
 use Rattle.storage_model.specs.Records.{Slots, KindEntry, Kinds, kind_in, next_index, empty_kind, swept, all_swept}
 use Rattle.storage_model.specs.Requests.{values_of, puts, is_end, placed, appended}
 use Rattle.storage_model.specs.Puts.{ValuesAt, slot_of, at_keys, at_end, put_all, places, append_floor_after, kind_after, put_kind}
-use Rattle.storage_model.proofs.KindLaws.{NamesNot, AreApart, fold-other, kind_in-all_swept}
+use Rattle.storage_model.proofs.KindLaws.{NamesNot, fold-other, kind_in-all_swept}
 use Rattle.record_state.specs.Undo.{slot_put, with_slot}
 use Rattle.record_state.specs.Placing.{put_into}
 use Rattle.ordered_tables.proofs.Finite.{get-insert_there, insert-insert}

@@ -1,14 +1,13 @@
 -- Slots as a map: what they weigh, and when the first of them expires.
-use Rattle.std.proofs.Common.{◌≡◌, ◌<◌, ℕ, ◌+◌, ◌*◌, ◌≤◌, ◌-◌, ◌^◌, Bool, true, false, cond, List, [], ◌∷◌, refl, ap, sym, subst, ◌∙◌, length, arith, Vec, Global}
+use Rattle.std.proofs.Common.{◌≡◌, ◌<◌, ℕ, ◌+◌, ◌*◌, ◌≤◌, ◌-◌, ◌^◌, Bool, true, false, cond, List, [], ◌∷◌, ap, sym, subst, ◌∙◌, length, arith, Vec, Global}
 use Rattle.std.specs.Prelude.{Option, Some, None, is_some, if◌then◌else◌, sum_by, min, unwrap_or}
 use Rattle.std.specs.Option.{option_map_or}
 use Rattle.std.specs.Ordering.{nat_cmp, is_eq, eq_by_cmp}
 use Rattle.std.specs.List.{AllByRecursion}
 use Rattle.std.specs.Cmp.Lexicographic.{slice_cmp, nat_list_cmp_total}
 use Rattle.std.proofs.lemmas.List.Sums.{sum_by-cons}
-use Rattle.std.specs.FinMap.{FinMap, IsAntisymmetric, slice_cmp-IsAntisymmetric, nat_cmp-IsAntisymmetric, entries, empty, get, insert, remove, len, entries_sorted, entries-insert, get-entries, get-insert, get-remove, get-empty, len-entries, find, put}
-use Rattle.storage_model.specs.declared.record.Held.{Held}
-use Rattle.storage_model.specs.Records.{SlotEntry, Slots, slot_in, slot_weight, empty_slot}
+use Rattle.std.specs.FinMap.{entries, empty, get, insert, remove, len, entries_sorted, entries-insert, get-entries, get-insert, get-remove, get-empty, len-entries, find, put}
+use Rattle.storage_model.specs.Records.{SlotEntry, Slots, slot_weight, empty_slot}
 use Rattle.ordered_tables.specs.Seen.{shown}
 use Rattle.record_state.specs.Light.{counted, counted_slot, slots_sum, expiry_of, IsNoSooner}
 use Rattle.ordered_tables.proofs.Trees.{sum-put, entries-empty}

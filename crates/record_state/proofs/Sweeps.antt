@@ -1,20 +1,19 @@
 -- Expired values leave one by one, and then all have left.
-use lib.Dec.{T}
-use Rattle.std.proofs.Common.{◌≡◌, ◌<◌, ◌≤◌, ◌^◌, ℕ, Bool, true, false, cond, List, [], ◌∷◌, ◌++◌, refl, ap, sym, subst, ◌∙◌, arith}
+use Rattle.std.proofs.Common.{◌≡◌, ◌<◌, ◌≤◌, ℕ, Bool, true, false, cond, List, [], ◌∷◌, ◌++◌, refl, ap, sym, ◌∙◌, arith}
 use Rattle.std.specs.Prelude.{Option, Some, None, is_some, unwrap_or, option_map, fold, nat_le, ◌||◌, if◌then◌else◌}
 use Rattle.std.proofs.lemmas.List.Sums.{fold-append}
 use Rattle.std.specs.Option.{option_map_or}
 use Rattle.std.specs.List.{list_any}
 use Rattle.std.specs.declared.cmp.Ordering.{Ordering}
-use Rattle.std.specs.Ordering.{nat_cmp, is_eq, eq_by_cmp}
+use Rattle.std.specs.Ordering.{is_eq, eq_by_cmp}
 use Rattle.std.specs.Cmp.{IsTotalOrder, tied_itself, nat_cmp_total}
-use Rattle.std.specs.Cmp.Lexicographic.{slice_cmp, nat_list_cmp_total}
+use Rattle.std.specs.Cmp.Lexicographic.{nat_list_cmp_total}
 use Rattle.std.specs.FinMap.{FinMap, IsAntisymmetric, nat_cmp-IsAntisymmetric, get, insert, keys, same_map, contains_key-keys}
 use Rattle.storage_model.specs.declared.record.Held.{Held}
-use Rattle.storage_model.specs.Records.{SlotEntry, Slots, KindEntry, Kinds, map_values, unexpired, swept_slot, swept, all_swept, empty_slot, slot_in}
+use Rattle.storage_model.specs.Records.{SlotEntry, Slots, KindEntry, Kinds, map_values, unexpired, swept_slot, swept, all_swept, empty_slot}
 use Rattle.storage_model.proofs.Maps.{get-map_values}
 use Rattle.record_state.specs.Light.{expiry_of, IsNoSooner}
-use Rattle.record_state.specs.Undo.{slot_put, with_slot}
+use Rattle.record_state.specs.Undo.{slot_put}
 use Rattle.record_state.specs.Sweep.{is_expired, emptied_at, with_slots, emptied_on, swept_on}
 use Rattle.ordered_tables.proofs.KeyMaps.{key_cmp_same}
 use Rattle.ordered_tables.proofs.Finite.{at_key, get-insert_there, get-insert_elsewhere, insert-insert, insert-same}

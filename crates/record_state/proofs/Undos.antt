@@ -1,11 +1,10 @@
 -- What was put and is undone leaves nothing.
-use Rattle.std.proofs.Common.{◌≡◌, ℕ, List, [], ◌∷◌, ◌++◌, refl, ap, sym, subst, ◌∙◌, true, false}
+use Rattle.std.proofs.Common.{◌≡◌, ℕ, List, [], ◌∷◌, ◌++◌, refl, ap, sym, ◌∙◌, false}
 use Rattle.std.specs.Prelude.{Option, Some, None, is_some, unwrap_or, if◌then◌else◌}
-use Rattle.std.specs.Ordering.{nat_cmp}
 use Rattle.std.specs.Cmp.{nat_cmp_total}
-use Rattle.std.specs.Cmp.Lexicographic.{slice_cmp, nat_list_cmp_total}
+use Rattle.std.specs.Cmp.Lexicographic.{nat_list_cmp_total}
 use Rattle.std.specs.FinMap.{nat_cmp-IsAntisymmetric, get, insert, remove}
-use Rattle.storage_model.specs.Records.{SlotEntry, Slots, KindEntry, Kinds, kind_in, empty_kind}
+use Rattle.storage_model.specs.Records.{SlotEntry, Slots, KindEntry, Kinds, empty_kind}
 use Rattle.record_state.specs.declared.undo.Undo.{Undo}
 use Rattle.record_state.specs.Undo.{slot_restored, with_slot, slot_put, kind_restored, restored}
 use Rattle.record_state.specs.Log.{undone, all_undone}

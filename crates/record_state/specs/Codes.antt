@@ -1,7 +1,5 @@
 -- The codes of the meaning's records, for the types that contracts see as them.
 use Rattle.std.specs.Prelude.{ℕ, Option, refl}
-use Rattle.std.specs.Ordering.{nat_cmp}
-use Rattle.std.specs.Cmp.Lexicographic.{slice_cmp}
 use Rattle.std.specs.Coded.{Coded, code_by, coded×, coded_ℕ, coded_list, coded_option}
 use Rattle.std.specs.FinMap as map
 use Rattle.storage_model.specs.declared.record.Held.{Held}

@@ -1,6 +1,6 @@
 -- Running sums: what a record weighs, counted no further than is needed to tell that it is too
 -- much, and a clock before which nothing expires.
-use Rattle.std.specs.Prelude.{◌≡◌, ℕ, ◌+◌, ◌<◌, ◌≤◌, ◌^◌, List, Option, IsSome, min, sum_by}
+use Rattle.std.specs.Prelude.{ℕ, ◌+◌, ◌<◌, ◌≤◌, ◌^◌, List, Option, IsSome, min, sum_by}
 use Rattle.std.specs.Option.{option_map_or}
 use Rattle.std.specs.FinMap.{entries, get}
 use Rattle.storage_model.specs.declared.limits.TheConstants.{MAX_WEIGHT}

@@ -1,5 +1,5 @@
 -- Expired values leave one by one.
-use Rattle.std.specs.Prelude.{ℕ, Bool, false, List, Option, nat_le}
+use Rattle.std.specs.Prelude.{ℕ, Bool, false, List, nat_le}
 use Rattle.std.specs.Option.{option_map_or}
 use Rattle.std.specs.FinMap.{get, insert}
 use Rattle.storage_model.specs.Records.{SlotEntry, Slots, KindEntry, Kinds, swept_slot, swept}

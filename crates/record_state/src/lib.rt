@@ -23,7 +23,7 @@ pub use counters::{counters_in, counters_told};
 pub use draft::Draft;
 pub use expired::sweep;
 pub use kept_answers::KeptAnswers;
-pub use keys::key_bytes;
+pub use keys::{index_of, key_bytes};
 pub use kind::KindState;
 pub use kinds::Kinds;
 pub use puts::put_kinds;

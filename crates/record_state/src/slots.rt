@@ -3,9 +3,9 @@
 ghost use Rattle.std.specs.Prelude.{◌≡◌, ◌<◌, ◌≤◌, ◌^◌, Some, None, is_some, IsSome, IsOk, unwrap_or, if◌then◌else◌, IfOk, OnOk, OnErr};
 ghost use Rattle.std.specs.Option.{option_copied};
 ghost use Rattle.std.specs.FinMap as map;
-ghost use Rattle.std.specs.Int.{w32, from_be_bytes};
 ghost use Rattle.record_state.specs.Light.{IsNoSooner};
 
+use crate::keys::index_of;
 use crate::slot::{SlotState, expiry_of, slot_weight, weight_before};
 use ordered_tables::KeyTable;
 use reload_base::{Bytes, NoMemory, TryCopy};
@@ -86,7 +86,7 @@ impl Slots {
         ensures small { result ≤ 2 ^ 32 }
     {
         match self.table.last_key() {
-            Some(key) => index_of(key) + 1,
+            Some(key) => u64::from(index_of(key)) + 1,
             None => 0,
         }
     }
@@ -194,16 +194,6 @@ fn first_expiry(table: &KeyTable<SlotState>) -> u64
         first = first.min(expiry_of(slot));
     }
     first
-}
-
-/// What the first 4 bytes of a key are as a number, the highest first. Bytes that aren't there are
-/// 0.
-fn index_of(key: &[u8]) -> u64
-    ensures value { result ≡ from_be_bytes w32 key.now }
-    ensures small { result < 2 ^ 32 }
-{
-    let at = |place: usize| key.get(place).copied().unwrap_or(0);
-    u64::from(u32::from_be_bytes([at(0), at(1), at(2), at(3)]))
 }
 
 impl TryCopy for Slots {

@@ -1,6 +1,5 @@
-use Rattle.std.proofs.Common.{◌≡◌, ◌<◌, ◌+◌, ◌∷◌, length, get_or, refl, ap, sym, subst, ◌∙◌, take, drop}
+use Rattle.std.proofs.Common.{◌<◌, ◌+◌, length, get_or, refl, ap, sym, subst, ◌∙◌, take, drop}
 use Rattle.std.specs.Prelude.{fold}
-use Rattle.std.proofs.Math.Seq.{drop-cons}
 use Rattle.std.proofs.lemmas.List.Sums.{fold_more}
 use Rattle.storage_model.specs.Puts.{put_kind}
 use Rattle.storage_model.proofs.KindLaws.{AreApart}

@@ -1,4 +1,4 @@
-use Rattle.std.proofs.Common.{◌≡◌, ◌∙◌}
+use Rattle.std.proofs.Common.{◌∙◌}
 use Rattle.std.proofs.lemmas.Result.{on_ok_weaker}
 use Rattle.record_state.proofs.Placed.{placed_into}
 use Rattle.record_state.proofs.puts.put_placed.Goals as goal

@@ -1,4 +1,4 @@
-use Rattle.std.proofs.Common.{◌≡◌, ◌≤◌, ◌^◌, ℕ, ap, sym, ◌∙◌, arith}
+use Rattle.std.proofs.Common.{◌≤◌, ◌^◌, ℕ, ap, sym, ◌∙◌, arith}
 use Rattle.ordered_tables.specs.Seen.{shown}
 use Rattle.record_state.proofs.SlotMaps.{sooner-all}
 use Rattle.record_state.proofs.slots.first_expiry.Goals as goal

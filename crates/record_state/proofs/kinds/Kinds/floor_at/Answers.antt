@@ -1,6 +1,4 @@
-use Rattle.std.proofs.Common.{◌≡◌, sym, ap, ◌∙◌}
-use Rattle.record_state.proofs.Lookups.{floor_none, next_none, count_none, heavy}
-use Rattle.record_state.proofs.KindMaps.{kinds_counted}
+use Rattle.record_state.proofs.Lookups.{floor_none}
 use Rattle.record_state.proofs.kinds.Kinds.floor_at.Goals as goal
 
 pub returns-in-None : goal.returns-in-None

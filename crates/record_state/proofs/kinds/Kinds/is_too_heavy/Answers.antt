@@ -1,5 +1,5 @@
-use Rattle.std.proofs.Common.{◌≡◌, sym, ap, ◌∙◌}
-use Rattle.record_state.proofs.Lookups.{floor_none, next_none, count_none, heavy}
+use Rattle.std.proofs.Common.{ap, ◌∙◌}
+use Rattle.record_state.proofs.Lookups.{heavy}
 use Rattle.record_state.proofs.KindMaps.{kinds_counted}
 use Rattle.std.specs.Prelude.{nat_lt}
 use Rattle.storage_model.specs.Records.{weight}

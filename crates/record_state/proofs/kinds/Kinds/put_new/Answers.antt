@@ -1,10 +1,9 @@
-use Rattle.std.proofs.Common.{◌≡◌, ℕ, true, refl, ap, sym, subst, ◌∙◌}
-use Rattle.std.specs.Prelude.{Some, None, is_some, if◌then◌else◌}
+use Rattle.std.proofs.Common.{ap, ◌∙◌}
+use Rattle.std.specs.Prelude.{None}
 use Rattle.std.specs.FinMap as map
-use Rattle.storage_model.specs.Records.{Slots, KindEntry}
-use Rattle.record_state.specs.Undo.{with_slot, slot_put, kind_restored, slot_restored, restored}
-use Rattle.ordered_tables.proofs.Finite.{found_there, chosen_false, on_err_of}
-use Rattle.record_state.proofs.Undos.{back_there, back_new, put_there, put_back, slot_put_there, slot_put_new, restored_there, restored_none, removed}
+use Rattle.storage_model.specs.Records.{KindEntry}
+use Rattle.record_state.specs.Undo.{with_slot, restored}
+use Rattle.record_state.proofs.Undos.{back_new, slot_put_new}
 use Rattle.record_state.proofs.kinds.Kinds.put_new.Goals as goal
 
 pub returns-clause-ok : goal.returns-clause-ok

@@ -1,10 +1,8 @@
-use Rattle.std.proofs.Common.{◌≡◌, ◌+◌, ◌≤◌, ◌<◌, ◌^◌, ℕ, ◌-◌, ◌*◌, true, refl, ap, sym, subst, ◌∙◌, arith}
-use Rattle.std.specs.Prelude.{Some, None, is_some, if◌then◌else◌}
+use Rattle.std.proofs.Common.{ap, sym, ◌∙◌}
 use Rattle.std.specs.FinMap as map
-use Rattle.record_state.specs.Light.{slots_sum, kinds_sum}
-use Rattle.ordered_tables.proofs.Finite.{found_there, chosen_true, chosen_false}
-use Rattle.record_state.proofs.SlotMaps.{taken, rest, left, less, sum_small}
-use Rattle.record_state.proofs.KindMaps.{ids-remove, kind_counted, kinds_sum-le, kinds_sum-empty, put_kind_weight, taken_kind_weight}
+use Rattle.record_state.specs.Light.{kinds_sum}
+use Rattle.record_state.proofs.SlotMaps.{left, less}
+use Rattle.record_state.proofs.KindMaps.{ids-remove, taken_kind_weight}
 use Rattle.std.specs.Option.{option_map_or}
 use Rattle.storage_model.specs.Records.{kind_weight}
 use Rattle.record_state.specs.Light.{counted}

@@ -1,10 +1,9 @@
-use Rattle.std.proofs.Common.{◌≡◌, ℕ, true, refl, ap, sym, subst, ◌∙◌}
-use Rattle.std.specs.Prelude.{Some, None, is_some, if◌then◌else◌}
+use Rattle.std.proofs.Common.{◌≡◌, ap, sym, ◌∙◌}
 use Rattle.std.specs.FinMap as map
 use Rattle.storage_model.specs.Records.{Slots, KindEntry}
-use Rattle.record_state.specs.Undo.{with_slot, slot_put, kind_restored, slot_restored, restored}
-use Rattle.ordered_tables.proofs.Finite.{found_there, chosen_false, on_err_of}
-use Rattle.record_state.proofs.Undos.{back_there, back_new, put_there, put_back, slot_put_there, slot_put_new, restored_there, restored_none, removed}
+use Rattle.record_state.specs.Undo.{kind_restored, slot_restored}
+use Rattle.ordered_tables.proofs.Finite.{found_there, chosen_false}
+use Rattle.record_state.proofs.Undos.{put_there, restored_there, restored_none}
 use Rattle.record_state.proofs.kinds.Kinds.restore.Goals as goal
 
 pub returns-then-not-exchange : goal.returns-then-not-exchange

@@ -1,4 +1,4 @@
-use Rattle.std.proofs.Common.{◌≡◌, ap, sym, ◌∙◌}
+use Rattle.std.proofs.Common.{ap, sym, ◌∙◌}
 use Rattle.record_state.specs.Log.{all_undone}
 use Rattle.record_state.proofs.Undos.{all_undone-push}
 use Rattle.record_state.proofs.kinds.Kinds.undo_all.Goals as goal

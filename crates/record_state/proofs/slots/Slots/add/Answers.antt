@@ -1,4 +1,4 @@
-use Rattle.std.proofs.Common.{◌≡◌, ◌+◌, ◌≤◌, ◌<◌, ◌^◌, ℕ, ◌-◌, ◌*◌, refl, ap, sym, subst, ◌∙◌, length, arith}
+use Rattle.std.proofs.Common.{ap, sym, ◌∙◌}
 use Rattle.record_state.specs.Light.{slots_sum}
 use Rattle.record_state.proofs.SlotMaps.{put_weight, taken, rest, sooner_min}
 use Rattle.record_state.proofs.slots.Slots.add.Goals as goal

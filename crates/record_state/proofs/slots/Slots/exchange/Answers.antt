@@ -1,9 +1,8 @@
-use Rattle.std.proofs.Common.{◌≡◌, ◌+◌, ◌≤◌, ◌<◌, ◌^◌, ℕ, ◌-◌, ◌*◌, refl, ap, sym, subst, ◌∙◌, length, arith}
-use Rattle.std.specs.Prelude.{Some, None, is_some, if◌then◌else◌}
-use Rattle.std.specs.FinMap as map
-use Rattle.record_state.specs.Light.{slots_sum, IsNoSooner}
+use Rattle.std.proofs.Common.{refl, ap, sym, ◌∙◌, length}
+use Rattle.std.specs.Prelude.{Some}
+use Rattle.record_state.specs.Light.{slots_sum}
 use Rattle.ordered_tables.proofs.Finite.{found_there, chosen_true, chosen_false}
-use Rattle.record_state.proofs.SlotMaps.{put_weight, taken, rest, all_of, sooner_min}
+use Rattle.record_state.proofs.SlotMaps.{put_weight, taken, rest, sooner_min}
 use Rattle.record_state.proofs.slots.Slots.exchange.Goals as goal
 
 pub overflow_sub-self : goal.overflow_sub-self

@@ -1,10 +1,8 @@
-use Rattle.std.proofs.Common.{◌≡◌, ◌+◌, ◌≤◌, ◌<◌, ◌^◌, ℕ, ◌-◌, ◌*◌, true, refl, ap, sym, subst, ◌∙◌, arith, length}
-use Rattle.std.specs.Prelude.{Some, None, is_some, if◌then◌else◌}
+use Rattle.std.proofs.Common.{refl, ap, sym, ◌∙◌, length}
 use Rattle.std.specs.FinMap as map
-use Rattle.record_state.specs.Light.{slots_sum, IsNoSooner}
+use Rattle.record_state.specs.Light.{slots_sum}
 use Rattle.record_state.specs.Undo.{slot_restored}
-use Rattle.ordered_tables.proofs.Finite.{found_there}
-use Rattle.record_state.proofs.SlotMaps.{put_weight, taken_weight, taken, rest, left, less, sooner_min, sooner-empty, sooner-remove, slots_sum-empty}
+use Rattle.record_state.proofs.SlotMaps.{taken_weight, left, less, sooner-remove}
 use Rattle.record_state.proofs.slots.Slots.remove.Goals as goal
 
 pub overflow_sub-self : goal.overflow_sub-self

@@ -1,4 +1,4 @@
-use Rattle.std.proofs.Common.{◌≡◌, ap, sym, ◌∙◌}
+use Rattle.std.proofs.Common.{ap, sym, ◌∙◌}
 use Rattle.record_state.specs.Undo.{slot_restored}
 use Rattle.record_state.proofs.slots.Slots.restore.Goals as goal
 

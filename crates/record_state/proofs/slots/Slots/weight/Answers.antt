@@ -1,5 +1,4 @@
-use Rattle.std.proofs.Common.{◌≡◌, ◌+◌, ◌≤◌, ◌<◌, ◌^◌, ℕ, ◌-◌, ◌*◌, refl, ap, sym, subst, ◌∙◌, arith}
-use Rattle.std.specs.FinMap as map
+use Rattle.std.proofs.Common.{◌≤◌, ◌*◌, sym, subst}
 use Rattle.record_state.specs.Light.{slots_sum}
 use Rattle.record_state.proofs.SlotMaps.{slots_sum-le, sum_small}
 use Rattle.record_state.proofs.slots.Slots.weight.Goals as goal
