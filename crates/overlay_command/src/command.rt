@@ -64,8 +64,8 @@ fn answer<K: Sink, A: Air, G: Signer>(
 /// The air is empty before; the frames of a run go through it, each node's signed by the signer.
 /// A status other than `Done` has its cause and its last line: `Usage` where the words are no
 /// command, `TooLong` where more than `MAX_INPUT` bytes were read, `BadLine` where a line is
-/// outside the grammar, `BadBytes` where a stream isn't whole frames of whole messages. `LinkFault`,
-/// `AirFull` and `NodeFull` stop a run behind the lines of the events before.
+/// outside the grammar, `BadBytes` where a stream isn't whole frames of whole messages.
+/// `LinkFault`, `AirFull` and `NodeFull` stop a run behind the lines of the events before.
 pub fn overlay<S: Source, K: Sink, A: Air, G: Signer>(
     alloc: Global,
     words: &Vec<String>,

@@ -14,8 +14,8 @@ use scenario_text::{TextFault, read_scenario};
 use security_block::Signer;
 use std::alloc::Global;
 
-/// Runs the scenario of a text, with its frames if they are traced, or tells its first bad line. The
-/// memory of the text is given back before the run.
+/// Runs the scenario of a text, with its frames if they are traced, or tells its first bad line.
+/// The memory of the text is given back before the run.
 pub fn run_text<K: Sink, A: Air, G: Signer>(
     alloc: Global,
     traced: bool,
