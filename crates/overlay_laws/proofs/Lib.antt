@@ -11,3 +11,8 @@ pub mod Sound
 pub mod Saneness
 pub mod Times
 pub mod Runs
+pub mod Sourcing
+pub mod PeerSources
+pub mod ClientSources
+pub mod Onward
+pub mod Payloads

@@ -1,3 +1,4 @@
 pub mod Ways
 pub mod Bytes
 pub mod Gives
+pub mod Sources

@@ -1,14 +1,23 @@
 //! Laws of a ring whose tables don't change, whatever is delivered, lost, repeated and asked in
 //! whichever order.
 
-ghost use Rattle.std.specs.Prelude.{◌≡◌, ◌≢◌, ℕ, ◌^◌, ◌<◌, true, List, Some};
+ghost use Rattle.std.specs.Prelude.{◌≡◌, ◌≢◌, ℕ, ◌^◌, ◌<◌, ◌≤◌, true, List, length, Some, None, Ok};
+ghost use Rattle.std.specs.List.{AllByRecursion};
 ghost use Rattle.std.specs.FinMap.{get};
 ghost use Rattle.reload_ids.specs.declared.NodeId.{NodeId};
 ghost use Rattle.reload_ids.specs.declared.ResourceId.{ResourceId};
 ghost use Rattle.reload_ids.specs.Ring.{distance};
 ghost use Rattle.chord_tables.specs.Tables.{Tables, owns};
 ghost use Rattle.ring_laws.specs.Members.{IsAmong, AreMembers, IsOwner, IsExact};
+ghost use Rattle.wire_core.specs.declared.limits.TheConstants.{MAX_MESSAGE};
+ghost use Rattle.wire_core.specs.Part.{part};
+ghost use Rattle.wire_core.specs.Spelling.{AreBytes};
+ghost use Rattle.link_framing.specs.declared.frame.Frame.TheVariants.{Payload, Ack};
+ghost use Rattle.link_framing.specs.Framing.{frame};
+ghost use Rattle.wire_core.specs.Reading.{value_of, number_at};
 ghost use Rattle.forwarding_header.specs.declared.header.Header.{Header};
+ghost use Rattle.forwarding_header.specs.Header.{IsSpelledHeader, IsHeaderInRange};
+ghost use Rattle.node_messages.specs.Making.{with_length, whole};
 ghost use Rattle.data_models.specs.declared.config.Config.{Config};
 ghost use Rattle.data_models.specs.Configs.{IsConfig};
 ghost use Rattle.request_words.specs.declared.node.DeclaredNode.{DeclaredNode};
@@ -18,12 +27,15 @@ ghost use Rattle.storage_model.specs.Decisions.{IsLegal, IsOnce};
 ghost use Rattle.storage_model.specs.Laws.{map_of};
 ghost use Rattle.node_model.specs.declared.course.Course.TheVariants.{Owned, Forwarded};
 ghost use Rattle.node_model.specs.declared.peer_state.PeerState.TheVariants.{Member};
-ghost use Rattle.node_model.specs.Heard.{ttl_of};
+ghost use Rattle.node_model.specs.Heard.{Envelope, envelope_of, payload_in, ttl_of};
 ghost use Rattle.node_model.specs.Courses.{onward, course};
-ghost use Rattle.node_model.specs.Peers.{Peer};
+ghost use Rattle.node_model.specs.Nodes.{Cause};
+ghost use Rattle.node_model.specs.Peers.{Peer, peer_step};
+ghost use Rattle.node_model.specs.Clients.{Client, client_step};
 ghost use Rattle.run_model.specs.Worlds.{APeer, AreApart, first_world};
 ghost use Rattle.overlay_laws.specs.Bytes.{AreAllBytes};
 ghost use Rattle.overlay_laws.specs.Gives.{GivesLastPuts, GivesAtDecisions, HoldsPermitted, InTime};
+ghost use Rattle.overlay_laws.specs.Sources.{IsAnswerOf, IsRequestOf, Source, Origin};
 ghost use Rattle.overlay_laws.specs.Ways.{IsRouted};
 ghost use Rattle.run_model.specs.Runs.{Event, world_after, happenings, decisions_in};
 
@@ -114,4 +126,37 @@ pub fn requests_go_to_the_owner()
         × (course from t Member size h ≡ Forwarded (record { 0 = next }) (onward from h h.dest))
         × IsAmong next members
         × (distance next owner < distance t.me owner) }
+{}
+
+/// A node sends acks, and payloads with messages that it made, that it passes on behind another
+/// header, or that it keeps to send them again. A request that goes on has a via list that ends with
+/// the node that it came from. Peers make answers alone, and clients Stores and Fetches.
+pub fn nodes_send_what_they_make_hear_or_keep()
+    ensures peers { (words : SignerWords) (now : ℕ) (cause : Cause) (p : Peer)
+        → let s = peer_step words now cause p in
+        AllByRecursion (Origin (Source words p.node.about p.node.config cause p.txns
+        s.node.txns IsAnswerOf)) s.outputs.frames }
+    ensures clients { (words : SignerWords) (now : ℕ) (cause : Cause) (c : Client)
+        → let s = client_step words now cause c in
+        AllByRecursion (Origin (Source words c.node.about c.node.config cause c.txns
+        s.node.txns IsRequestOf)) s.outputs.frames }
+{}
+
+/// A message that goes on behind a header that fits is read, where it arrives, as that header, its
+/// length filled in, and all that was behind the old one.
+pub fn what_goes_on_is_read_as_it_was()
+    ensures { (h : Header) (e : Envelope) → IsSpelledHeader h → IsHeaderInRange h
+        → length (whole h e.behind) ≤ MAX_MESSAGE
+        → value_of (number_at 2 (part 0 e.behind)) ≡ Ok e.code
+        → envelope_of (whole h e.behind) ≡ Some (record e { header = with_length h e.behind }) }
+{}
+
+/// The frame of a payload carries its message and no other, and that of an ack carries none, where
+/// what they hold are bytes.
+pub fn payloads_carry_their_messages()
+    ensures payloads { (sequence : ℕ) (message : List ℕ) (x : ℕ × List ℕ)
+        → AreBytes (frame (Payload sequence message))
+        → payload_in (frame (Payload sequence message)) ≡ Some x → x.1 ≡ message }
+    ensures acks { (sequence mask : ℕ) → AreBytes (frame (Ack sequence mask))
+        → payload_in (frame (Ack sequence mask)) ≡ None }
 {}
